@@ -3,8 +3,9 @@
 # bench/field. It prints three lines and a table:
 # - random programs of tasks beside the core: one thread, one to four seats, each deed drawn; behind each deed what may happen next is compared with the core, and the flags with what is done;
 # - the same programs by three threads in turns: before each atomic step it is drawn whose turn comes, and the core makes the same moves;
-# - the same by four threads at once, ten times each: the output is compared with that of the sequential run;
-# - the instructions of a task (callgrind), and its atomic steps, by one seat: in a chain, on cells of their own, with three cells each, reductions of one cell, and children of weak tasks.
+# - a tenth of the programs by four threads at once, ten times each: the output is compared with that of the sequential run;
+# - the instructions of a task (callgrind), and its atomic steps, by one seat: in a chain, on a cell and on two cells of their own, with three cells each, reductions of one cell, and children of weak
+#   tasks. What they print is compared with the sequential run too.
 # The first difference ends it with the status 1, and with the start of the program, the program and the steps. With START and COUNT it drives so many programs from START on, and counts nothing.
 # It wants `rustc`, `python3` and `valgrind`, and proves nothing.
 # usage: field.sh [START COUNT]
@@ -24,11 +25,17 @@ python3 "$top/bench/port/strip.py" --program "$top/bench/field" "$top" port oss_
 # The driver with tests of sums and of slots, and with a hook before each atomic step.
 rustc --edition 2021 -C opt-level=1 -C debug-assertions=on -C overflow-checks=on -o driver port/src/main.rs || exit 1
 
+# failed: says why a driver failed
+failed() {
+  cat errors >&2
+  exit 1
+}
+
 start=${1:-1}
 count=${2:-20000}
-./driver beside "$start" "$count" 2>errors || exit 1
-./driver turns "$start" "$count" 3 1 2>errors || exit 1
-./driver threads "$start" "$((count / 10 + 1))" 4 10 2>errors || exit 1
+./driver beside "$start" "$count" 2>errors || failed
+./driver turns "$start" "$count" 3 1 2>errors || failed
+./driver threads "$start" "$((count / 10 + 1))" 4 10 2>errors || failed
 [ $# -eq 0 ] || exit 0
 
 rustc --edition 2021 -C opt-level=3 -o counted port/src/main.rs || exit 1
@@ -68,6 +75,7 @@ row() {
   steps=$(./driver count "$2_1000.c" "$((1000 * $3 + 1))" 2>&1 >/dev/null | sed -n 's/.*atomic steps //p')
   for tasks in 1000 30000 60000; do
     ./counted count "$2_$tasks.c" "$((tasks * $3 + 1))" 2>/dev/null >printed || exit 1
+    ./counted serial "$2_$tasks.c" | cmp - printed || exit 1
     valgrind --tool=callgrind --callgrind-out-file=/dev/null ./counted count "$2_$tasks.c" "$((tasks * $3 + 1))" 2>&1 >/dev/null | sed -n 's/.*Collected : \([0-9]*\).*/\1/p' >"$tasks.count"
   done
   awk -v what="$1" -v a="$(cat 1000.count)" -v b="$(cat 30000.count)" -v c="$(cat 60000.count)" -v steps="$steps" 'BEGIN {

@@ -43,14 +43,17 @@ mend() {
   mv "$work/mended" "$work/p.c"
 }
 
+# said FILE..: the first line of these, or that there is none
+said() { cat "$@" | head -n 1 | grep . || echo 'no answer'; }
+
 # fault NAME: what is wrong with $work/p.c, beside the right program of this name
 fault() {
   if ! ask run; then
-    cat "$work/err"
+    said "$work/err"
   elif ! cmp -s "$work/out" "right/$1.out"; then
     echo 'another output'
   elif ! ask missing || ! cmp -s "$work/out" "$work/all_there"; then
-    cat "$work/err" "$work/out" | head -n 1
+    said "$work/err" "$work/out"
   fi
 }
 
@@ -64,7 +67,7 @@ verdict() {
     lines=wrong/$1.missing
     [ -e "$lines" ] || lines=$work/nothing
     cmp -s "$work/out" "$lines" || echo 'other lines; '
-    head -n 1 "$work/why"
+    said "$work/why"
     return
   }
   reason=$(fault "$2")

@@ -43,7 +43,12 @@ impl Watch for Ready {
 
 /// Runs a program by one seat: what it prints, in the order of time, and how many tasks it made. Those that wait are asked again when nothing else is ready.
 pub fn run(code: &Code, field: &Field, seat: FieldSeat) -> (Vec<u8>, u64) {
-    let mut worker = Worker { field, code, seat, late: false };
+    let mut worker = Worker {
+        field,
+        code,
+        seat,
+        late: false,
+    };
     let mut ready = Ready {
         tasks: VecDeque::from([0]),
         open: 1,

@@ -5,7 +5,7 @@ use crate::beside::{Beside, Counts};
 use crate::oss_code::Code;
 use crate::oss_field::{Field, FieldSeat};
 use crate::oss_jobs::Job;
-use crate::prelude::{Box, Global};
+use crate::prelude::Global;
 use crate::programs::Dice;
 use crate::table;
 use crate::work::{places_of_job, Did, Made, Watch, Worker};
@@ -69,7 +69,9 @@ impl Turns {
     }
 
     fn pick(&self, state: &mut TurnState, me: usize) {
-        let alive: Vec<usize> = (0..state.alive.len()).filter(|at| state.alive[*at]).collect();
+        let alive: Vec<usize> = (0..state.alive.len())
+            .filter(|at| state.alive[*at])
+            .collect();
         if alive.is_empty() {
             return;
         }
@@ -176,7 +178,9 @@ impl Watch for Teller<'_, '_> {
         common.tasks += 1;
         common.numbers.push(task.number);
         common.entries.push(task.number);
-        common.entries.extend(task.places.iter().map(|place| place.entry));
+        common
+            .entries
+            .extend(task.places.iter().map(|place| place.entry));
         if let Some(beside) = &mut common.beside {
             beside.made(creator, task);
         }
@@ -290,7 +294,10 @@ impl Thread<'_, '_> {
             return;
         };
         self.teller.tell(|beside| beside.check_ready(task));
-        assert!(job.task() == task, "the job of another task is in the slot of {task}");
+        assert!(
+            job.task() == task,
+            "the job of another task is in the slot of {task}"
+        );
         self.worker.field.put_body(&mut self.worker.seat, job);
         locked(self.teller.common).touched += 1;
     }
@@ -299,7 +306,10 @@ impl Thread<'_, '_> {
     fn go_on(&mut self, task: u32) -> bool {
         let field = self.worker.field;
         let Some(mut job) = field.take_body(&mut self.worker.seat, task) else {
-            assert!(self.pick == Pick::Compete, "the job of the ready task {task} is not there");
+            assert!(
+                self.pick == Pick::Compete,
+                "the job of the ready task {task} is not there"
+            );
             locked(self.teller.common).parked.push_back(task);
             return false;
         };
@@ -357,7 +367,9 @@ impl Thread<'_, '_> {
     fn print(&mut self, job: &Job) {
         let mut common = locked(self.teller.common);
         for print in job.prints() {
-            common.printed.push((print.at.as_slice().to_vec(), print.text.as_slice().to_vec()));
+            common
+                .printed
+                .push((print.at.as_slice().to_vec(), print.text.as_slice().to_vec()));
         }
     }
 }
@@ -400,7 +412,9 @@ pub fn run(code: &Code, field: &Field, mut seat: FieldSeat, fuel: u32, how: How)
         numbers: std::iter::once(0).collect(),
         touched: 0,
     });
-    let turns = how.turns.then(|| Arc::new(Turns::new(how.threads, how.start)));
+    let turns = how
+        .turns
+        .then(|| Arc::new(Turns::new(how.threads, how.start)));
     let mut seats = Vec::new();
     while seats.len() + 1 < how.threads {
         match field.split(Global, &mut seat) {
@@ -418,7 +432,8 @@ pub fn run(code: &Code, field: &Field, mut seat: FieldSeat, fuel: u32, how: How)
             for (at, seat) in std::iter::once(seat).chain(seats).enumerate() {
                 let turns = turns.clone();
                 let common = &common;
-                handles.push(scope.spawn(move || thread(code, field, seat, common, turns, how, at)));
+                handles
+                    .push(scope.spawn(move || thread(code, field, seat, common, turns, how, at)));
             }
             for (at, handle) in handles.into_iter().enumerate() {
                 match handle.join() {
@@ -450,7 +465,12 @@ fn thread<'a>(
             turns.begin(me);
         }
         let mut thread = Thread {
-            worker: Worker { field, code, seat, late: false },
+            worker: Worker {
+                field,
+                code,
+                seat,
+                late: false,
+            },
             teller: Teller { common, me },
             dice: Dice::new(how.start.wrapping_mul(31).wrapping_add(me as u64)),
             pick: how.pick,
@@ -472,7 +492,9 @@ fn thread<'a>(
         Ok(seat) => Some(seat),
         Err(why) => {
             let said = why.downcast_ref::<String>().cloned();
-            let said = said.or(why.downcast_ref::<&str>().map(|why| why.to_string())).unwrap_or_default();
+            let said = said
+                .or(why.downcast_ref::<&str>().map(|why| why.to_string()))
+                .unwrap_or_default();
             common.open = 0;
             if common.failure.is_none() || said != "another thread has failed" {
                 common.failure = Some(said);
@@ -503,11 +525,18 @@ fn finish(
             }
             field.join(&mut first, seat);
         }
-        let mut worker = Worker { field, code, seat: first, late: false };
+        let mut worker = Worker {
+            field,
+            code,
+            seat: first,
+            late: false,
+        };
         for entry in &common.entries {
             let flags = worker.flags(*entry);
             if !(flags.given && flags.done && flags.clear) {
-                failure = Some(std::format!("entry {entry} is not done and clear at the end"));
+                failure = Some(std::format!(
+                    "entry {entry} is not done and clear at the end"
+                ));
             }
         }
         if !common.ready.is_empty() || !common.parked.is_empty() {
@@ -523,7 +552,11 @@ fn finish(
     }
     common.printed.sort_by(|one, other| one.0.cmp(&other.0));
     Ran {
-        printed: common.printed.into_iter().flat_map(|(_, text)| text).collect(),
+        printed: common
+            .printed
+            .into_iter()
+            .flat_map(|(_, text)| text)
+            .collect(),
         tasks: common.tasks,
         steps: common.steps,
         touched: common.touched,

@@ -2,6 +2,7 @@
 mod beside;
 mod count;
 mod crew;
+mod drawn;
 mod programs;
 mod work;
 
@@ -59,16 +60,37 @@ fn size_of(start: u64) -> u32 {
     4 + (start % 21) as u32
 }
 
+/// The program of this start, and its code.
+fn program_of(start: u64) -> (String, Code) {
+    let text = programs::program(start, size_of(start));
+    match code_of(&text) {
+        Some(code) => (text, code),
+        None => panic!("start {start}: this is no program:\n{text}"),
+    }
+}
+
+/// Tells a difference, with the program and the steps, and ends.
+fn tell(start: u64, why: &str, text: &str, steps: &[String]) -> ! {
+    println!("start {start}: {why}\n{text}");
+    for step in steps {
+        println!("  {step}");
+    }
+    std::process::exit(1);
+}
+
+/// What a panic said.
+fn said(why: std::boxed::Box<dyn std::any::Any + Send>) -> String {
+    let text = why.downcast_ref::<String>().cloned();
+    text.or(why.downcast_ref::<&str>().map(|why| why.to_string()))
+        .unwrap_or_default()
+}
+
 /// Random programs beside the core, from this start on.
-fn beside_all(start: u64, count: u64) {
+fn beside_all(from: u64, count: u64) {
     let mut counts = beside::Counts::default();
-    let mut ran = 0;
-    let mut faults = 0;
-    for start in start..start + count {
-        let text = programs::program(start, size_of(start));
-        let Some(code) = code_of(&text) else {
-            panic!("start {start}: this is no program:\n{text}");
-        };
+    let (mut ran, mut faults) = (0, 0);
+    for start in from..from + count {
+        let (text, code) = program_of(start);
         if printed(&code).is_none() {
             faults += 1;
             continue;
@@ -77,90 +99,115 @@ fn beside_all(start: u64, count: u64) {
         let ended = std::panic::catch_unwind(std::panic::AssertUnwindSafe(|| {
             let (field, seat) = field_of(&code, 1_024);
             let seats = 1 + (start % 4) as usize;
-            beside::run(&code, &field, seat, FUEL, seats, start, &mut |step| steps.push(step))
+            drawn::run(&code, &field, seat, FUEL, seats, start, &mut |step| {
+                steps.push(step)
+            })
         }));
         match ended {
             Ok(more) => {
                 ran += 1;
                 counts.add(&more);
             }
-            Err(why) => {
-                let why = why.downcast_ref::<String>().cloned().or(why.downcast_ref::<&str>().map(|why| why.to_string()));
-                println!("start {start}: {}", why.unwrap_or_default());
-                println!("{text}");
-                for step in steps {
-                    println!("  {step}");
-                }
-                std::process::exit(1);
-            }
+            Err(why) => tell(start, &said(why), &text, &steps),
         }
     }
-    let beside::Counts {
-        deeds,
-        acts,
-        tasks,
-        waits,
-        gives,
-        early,
-        leaves,
-        joins,
-        finishes,
-        compared,
-        readies,
-        seats,
-        late,
-    } = counts;
-    println!("beside the core: {ran} programs from {start} on ({faults} more have a fault), {tasks} tasks, {deeds} deeds: {acts} acts, {waits} of them waits, {gives} gives, {early} of them early, {leaves} leaves, {joins} joins, {finishes} ends; {late} messages that waited; {seats} seats that came and went; compared {compared} times, {readies} ready tasks; no difference");
+    println!("beside the core: {ran} programs from {from} on ({faults} more have a fault); {counts}; no difference");
+}
+
+/// How threads run the programs of a call.
+#[derive(Clone, Copy)]
+struct Threads {
+    threads: usize,
+    turns: bool,
+    /// How often each program is run.
+    times: u64,
 }
 
 /// Random programs by threads: in turns, step by step and beside the core, or freely.
-fn threads_all(start: u64, count: u64, threads: usize, turns: bool, times: u64) {
-    let (mut ran, mut tasks, mut steps, mut touched) = (0, 0, 0, 0);
+fn threads_all(from: u64, count: u64, how: Threads) {
+    let (mut ran, mut steps, mut touched, mut tasks) = (0, 0, 0, 0);
     let mut counts = beside::Counts::default();
-    for start in start..start + count {
-        let text = programs::program(start, size_of(start));
-        let Some(code) = code_of(&text) else {
-            panic!("start {start}: this is no program:\n{text}");
-        };
+    for start in from..from + count {
+        let (text, code) = program_of(start);
         let Some(wanted) = printed(&code) else {
             continue;
         };
-        for time in 0..times {
-            let (field, seat) = field_of(&code, 1_024);
-            let how = crew::How {
-                threads,
-                turns,
-                start: start * times + time,
-                pick: match start % 2 {
-                    0 => crew::Pick::Random,
-                    _ => crew::Pick::Compete,
-                },
-            };
-            let made = crew::run(&code, &field, seat, FUEL, how);
-            let mut failure = made.failure;
-            if failure.is_none() && made.printed != wanted {
-                failure = Some("it prints something else than the sequential run".to_string());
-            }
-            if let Some(why) = failure {
-                println!("start {start}, time {time}: {why}\n{text}");
-                for note in made.notes {
-                    println!("  {note}");
-                }
-                std::process::exit(1);
+        for time in 0..how.times {
+            let made = run_once(&code, 1_024, start, time, how);
+            match made.failure {
+                Some(why) => tell(
+                    start,
+                    &std::format!("time {time}: {why}"),
+                    &text,
+                    &made.notes,
+                ),
+                None if made.printed != wanted => tell(
+                    start,
+                    "it prints something else than the sequential run",
+                    &text,
+                    &made.notes,
+                ),
+                None => {}
             }
             ran += 1;
-            tasks += made.tasks;
             steps += made.steps;
             touched += made.touched;
+            tasks += made.tasks;
             counts.add(&made.counts);
         }
     }
-    let beside::Counts { acts, waits, gives, early, leaves, joins, finishes, .. } = counts;
-    if turns {
-        println!("{threads} threads in turns: {ran} runs from {start} on, {tasks} tasks, {steps} atomic steps, {acts} acts, {waits} of them waits, {gives} gives, {early} of them early, {leaves} leaves, {joins} joins, {finishes} ends; {touched} jobs were taken and put at once; each move was one of the core, and each run printed what the sequential run prints");
+    let threads = how.threads;
+    if how.turns {
+        println!("{threads} threads in turns: {ran} runs from {from} on, {steps} atomic steps, {touched} jobs that were taken and put at once; {counts}; each move was one of the core, and each run printed what the sequential run prints");
     } else {
-        println!("{threads} threads at once: {ran} runs from {start} on, {tasks} tasks; {touched} jobs were taken and put at once; each printed what the sequential run prints");
+        println!("{threads} threads at once: {ran} runs from {from} on, {touched} jobs that were taken and put at once; {tasks} tasks, main among them; each run printed what the sequential run prints");
     }
+}
+
+/// One run of a program.
+fn run_once(code: &Code, entries: u32, start: u64, time: u64, how: Threads) -> crew::Ran {
+    let (field, seat) = field_of(code, entries);
+    let how = crew::How {
+        threads: how.threads,
+        turns: how.turns,
+        start: start * how.times + time,
+        pick: match start % 2 {
+            0 => crew::Pick::Random,
+            _ => crew::Pick::Compete,
+        },
+    };
+    crew::run(code, &field, seat, FUEL, how)
+}
+
+/// Runs the program of a file by threads, in fields with so many entries.
+fn file_by_threads(file: &str, entries: u32, how: Threads) {
+    let Some(code) = std::fs::read_to_string(file)
+        .ok()
+        .and_then(|text| code_of(&text))
+    else {
+        panic!("this is no program");
+    };
+    let Some(wanted) = printed(&code) else {
+        println!("{file}: it ends with a fault");
+        return;
+    };
+    let (mut tasks, mut steps) = (0, 0);
+    for time in 0..how.times {
+        let made = run_once(&code, entries, time, 0, how);
+        match made.failure {
+            Some(why) => tell(time, &why, file, &made.notes),
+            None if made.printed != wanted => tell(
+                time,
+                "it prints something else than the sequential run",
+                file,
+                &made.notes,
+            ),
+            None => {}
+        }
+        tasks += made.tasks;
+        steps += made.steps;
+    }
+    println!("{file}: {} runs by {} threads, {tasks} tasks, {steps} atomic steps; each printed what the sequential run prints", how.times, how.threads);
 }
 
 /// Runs the program of a file by one seat, in a field with so many entries.
@@ -184,8 +231,28 @@ fn main() {
     match words[0].as_str() {
         "program" => print!("{}", programs::program(number(1), size_of(number(1)))),
         "beside" => beside_all(number(1), number(2)),
-        "turns" => threads_all(number(1), number(2), number(3) as usize, true, number(4)),
-        "threads" => threads_all(number(1), number(2), number(3) as usize, false, number(4)),
+        "turns" | "threads" => {
+            let how = Threads {
+                threads: number(3) as usize,
+                turns: words[0] == "turns",
+                times: number(4),
+            };
+            threads_all(number(1), number(2), how);
+        }
+        "file" => {
+            let how = Threads {
+                threads: number(3) as usize,
+                turns: words.get(5).is_some(),
+                times: number(4),
+            };
+            file_by_threads(&words[1], number(2) as u32, how);
+        }
+        "serial" => {
+            let text = std::fs::read_to_string(&words[1]).expect("the file cannot be read");
+            let code = code_of(&text).expect("a program");
+            let output = printed(&code).expect("a run without fault");
+            print!("{}", String::from_utf8_lossy(&output));
+        }
         "count" => count(&words[1], number(2) as u32),
         other => panic!("no mode is named {other}"),
     }

@@ -131,7 +131,8 @@ impl Maker {
 
     fn release(&mut self, held: &mut Vec<Held>) {
         // what is reduced is not released
-        let Some(cell) = self.some_cell(held, |one| matches!(one.may, May::Read | May::Write)) else {
+        let Some(cell) = self.some_cell(held, |one| matches!(one.may, May::Read | May::Write))
+        else {
             return;
         };
         let word = clause_word(held[cell].may, !held[cell].strong);
@@ -141,7 +142,9 @@ impl Maker {
 
     /// A touch of a cell to which the task has a strong right, and which it has not lent.
     fn touch(&mut self, held: &[Held]) {
-        let Some(cell) = self.some_cell(held, |one| one.strong && !one.lent && one.may != May::Nothing) else {
+        let Some(cell) = self.some_cell(held, |one| {
+            one.strong && !one.lent && one.may != May::Nothing
+        }) else {
             self.text.push_str(";\n");
             return;
         };
@@ -178,6 +181,30 @@ impl Maker {
             return;
         }
         self.left -= 1;
+        self.text.push_str("#pragma oss task");
+        let mut own = self.clauses(held);
+        if self.dice.one_in(6) {
+            self.text.push_str(" wait");
+        }
+        if self.dice.one_in(12) {
+            self.text.push_str(" if(0)");
+        }
+        if self.dice.one_in(12) {
+            self.text.push_str(" final(1)");
+            own.iter_mut().for_each(|one| one.strong = true);
+        }
+        self.text.push_str("\n{\n");
+        for (cell, one) in own.iter().enumerate() {
+            held[cell].lent |= one.may != May::Nothing;
+        }
+        for _ in 0..self.dice.below(6) {
+            self.statement(&mut own, depth + 1, false);
+        }
+        self.text.push_str("}\n");
+    }
+
+    /// The clauses of a task: what it may do.
+    fn clauses(&mut self, held: &[Held]) -> Vec<Held> {
         let mut own = vec_of(
             self.cells,
             Held {
@@ -186,7 +213,6 @@ impl Maker {
                 lent: false,
             },
         );
-        self.text.push_str("#pragma oss task");
         for cell in 0..self.cells {
             if held[cell].may == May::Nothing || self.dice.below(5) < 2 {
                 continue;
@@ -200,26 +226,7 @@ impl Maker {
                 lent: false,
             };
         }
-        if self.dice.one_in(6) {
-            self.text.push_str(" wait");
-        }
-        if self.dice.one_in(12) {
-            self.text.push_str(" if(0)");
-        }
-        let is_final = self.dice.one_in(12);
-        if is_final {
-            self.text.push_str(" final(1)");
-            own.iter_mut().for_each(|one| one.strong = true);
-        }
-        self.text.push_str("\n{\n");
-        let named = own.clone();
-        for _ in 0..self.dice.below(6) {
-            self.statement(&mut own, depth + 1, false);
-        }
-        self.text.push_str("}\n");
-        for (cell, one) in named.iter().enumerate() {
-            held[cell].lent |= one.may != May::Nothing;
-        }
+        own
     }
 }
 

@@ -5,7 +5,7 @@ use crate::oss_body::Act;
 use crate::oss_code::Code;
 use crate::oss_field::{Field, FieldSeat};
 use crate::oss_jobs::Job;
-use crate::oss_syntax::{Access, Mode};
+use crate::oss_syntax::{Access, List, Mode};
 use crate::oss_words::{state_of, After, EntryInfo, EntryState};
 use crate::prelude::{Box, Global};
 use std::vec::Vec;
@@ -39,7 +39,6 @@ pub struct Made {
     pub number: u32,
     pub point: Vec<u16>,
     pub places: Vec<Place>,
-    pub waits: bool,
 }
 
 /// A cell of a task, with its entry.
@@ -103,6 +102,26 @@ pub fn places_of_job(job: &Job) -> Vec<Place> {
     places_of(job.task(), accesses.as_slice())
 }
 
+/// A new job numbers its entries as the driver does.
+fn check_places(new: &Job, places: &[Place]) {
+    assert!(
+        places.len() as u32 == new.cells(),
+        "a job tells another number of cells"
+    );
+    for place in places {
+        assert!(
+            new.entry(place.cell) == place.entry,
+            "a job tells another entry"
+        );
+    }
+}
+
+/// Whether the count of a new task waits for a flag of this entry: it is strong, reads or writes, and begins no list of main.
+fn is_waited(creator: &Job, place: &Place) -> bool {
+    let begins = creator.task() == 0 && creator.last(place.cell).is_none();
+    place.strong && !matches!(place.mode, Mode::Fold(_)) && !begins
+}
+
 impl<'a> Worker<'a> {
     /// The flags of an entry, as they stand.
     pub fn flags(&mut self, entry: u32) -> EntryState {
@@ -122,7 +141,10 @@ impl<'a> Worker<'a> {
             Some(entry) => {
                 watch.joining(entry);
                 self.field.fold(&mut self.seat, entry);
-                assert!(self.seat.touched().entry == entry, "a fold has touched another entry");
+                assert!(
+                    self.seat.touched().entry == entry,
+                    "a fold has touched another entry"
+                );
                 watch.joined(entry);
             }
             None => {
@@ -224,55 +246,17 @@ impl<'a> Worker<'a> {
 
     /// Makes the task whose creation stands next in the job.
     fn create(&mut self, job: &mut Job, watch: &mut impl Watch) {
-        let Act::Create { creation, .. } = job.body().pending() else {
-            panic!("no creation stands next");
-        };
-        let Ok(accesses) = creation.get().accesses() else {
-            panic!("memory");
-        };
-        let (Ok(body), Ok(())) = (job.body().child(self.code), job.reserve(&accesses)) else {
-            panic!("memory");
-        };
-        let point = body.point().as_slice().to_vec();
-        let waits = body.waits();
-        let Ok(mut new) = Job::new(Global, body, &accesses) else {
-            panic!("memory");
-        };
+        let (mut new, accesses) = self.prepare(job);
         let Some(task) = self.field.draw(&mut self.seat, 1 + new.cells()) else {
             panic!("the field has too few entries");
         };
         new.start(task);
+        let point = new.body().point().as_slice().to_vec();
         let places = places_of(task, accesses.as_slice());
-        assert!(places.len() as u32 == new.cells(), "a job tells another number of cells");
-        let of_main = job.task() == 0;
-        let mut count = 1;
-        for place in &places {
-            assert!(new.entry(place.cell) == place.entry, "a job tells another entry");
-            let begins = of_main && job.last(place.cell).is_none();
-            if place.strong && !matches!(place.mode, Mode::Fold(_)) && !begins {
-                count += 1;
-            }
-        }
+        check_places(&new, &places);
+        let count = 1 + places.iter().filter(|place| is_waited(job, place)).count() as u32;
         self.field.set_count(&mut self.seat, job, task, count);
-        let depth = (point.len() - 1) as u8;
-        let info = EntryInfo {
-            mode: Mode::Read,
-            strong: false,
-            depth,
-            parent: job.task(),
-            task,
-        };
-        self.link(job, task, &info, None, watch);
-        for place in &places {
-            let info = EntryInfo {
-                mode: place.mode,
-                strong: place.strong,
-                depth,
-                parent: if of_main { 0 } else { job.entry(place.cell) },
-                task,
-            };
-            self.link(job, place.entry, &info, Some(place.cell), watch);
-        }
+        self.hang(job, task, (point.len() - 1) as u8, &places, watch);
         let Ok(boxed) = Box::new(Global, new) else {
             panic!("memory");
         };
@@ -283,7 +267,6 @@ impl<'a> Worker<'a> {
             number: task,
             point,
             places,
-            waits,
         };
         watch.made(job, made);
         if free {
@@ -291,8 +274,57 @@ impl<'a> Worker<'a> {
         }
     }
 
+    /// The job of the task whose creation stands next, without a number, and its accesses, for which the creator's job has room. All memory is taken here.
+    fn prepare(&self, job: &mut Job) -> (Job, List<Access>) {
+        let Act::Create { creation, .. } = job.body().pending() else {
+            panic!("no creation stands next");
+        };
+        let Ok(accesses) = creation.get().accesses() else {
+            panic!("memory");
+        };
+        let (Ok(body), Ok(())) = (job.body().child(self.code), job.reserve(&accesses)) else {
+            panic!("memory");
+        };
+        match Job::new(Global, body, &accesses) {
+            Ok(new) => (new, accesses),
+            Err(_) => panic!("memory"),
+        }
+    }
+
+    /// Links all entries of a new task: its own, and those on its cells.
+    fn hang(&mut self, job: &Job, task: u32, depth: u8, places: &[Place], watch: &mut impl Watch) {
+        let own = EntryInfo {
+            mode: Mode::Read,
+            strong: false,
+            depth,
+            parent: job.task(),
+            task,
+        };
+        self.link(job, task, &own, None, watch);
+        for place in places {
+            let info = EntryInfo {
+                mode: place.mode,
+                strong: place.strong,
+                depth,
+                parent: match job.task() {
+                    0 => 0,
+                    _ => job.entry(place.cell),
+                },
+                task,
+            };
+            self.link(job, place.entry, &info, Some(place.cell), watch);
+        }
+    }
+
     /// Links an entry of a new task, and delivers what that completes.
-    fn link(&mut self, job: &Job, entry: u32, info: &EntryInfo, cell: Option<u32>, watch: &mut impl Watch) {
+    fn link(
+        &mut self,
+        job: &Job,
+        entry: u32,
+        info: &EntryInfo,
+        cell: Option<u32>,
+        watch: &mut impl Watch,
+    ) {
         let last = match cell {
             Some(cell) => job.last(cell),
             None => job.last_child(),
@@ -303,7 +335,8 @@ impl<'a> Worker<'a> {
             None => After::FirstOf(info.parent),
         };
         self.deliver(watch);
-        self.field.link(&mut self.seat, job, entry, info, cell, after);
+        self.field
+            .link(&mut self.seat, job, entry, info, cell, after);
         self.deliver_soon(watch);
     }
 

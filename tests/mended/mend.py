@@ -35,6 +35,7 @@ LACKS = re.compile(rf"Task \S+ \(line (?P<line>\d+)\) lacks {CLAUSE}(?:;.*)?\.")
 WANTS = re.compile(rf"Task \S+ \(line (?P<line>\d+)\) wants {CLAUSE} in place of (?P<places>[^;]+?)(?:;.*)?\.")
 WAIT = re.compile(r".* lacks a taskwait before it .*? at line (?P<line>\d+): .*\.")
 HEAD = re.compile(r"\s*#\s*pragma\s+oss\s+(?:taskloop|task)\b")
+FINAL = re.compile(r"\bfinal\s*\(")
 BASE = re.compile(r"(?:[{*\s]|\[[^]]*\])*(\w+)")
 
 
@@ -91,6 +92,9 @@ class Change:
         """The text of the pragma, changed."""
         for word, name in sorted(self.lost):
             pragma = without(pragma, word, name)
+            # in a final task a weak clause counts as strong, and is told so
+            if FINAL.search(pragma):
+                pragma = without(pragma, "weak" + word, name)
         clauses = {}
         for section, words in self.added.items():
             clauses.setdefault(joined(words), []).append(section)

@@ -48,7 +48,7 @@ pub record IsTaskMissing (all : List Item) (t : Asking) (h : Option Holding) (k 
   pub wants : AreWanting all (lacks_of t) t.final t.clauses k.wants
   pub lines : AreLinesOf all h k.late
 
--- This is missing of these tasks, one by one, all of which have ended. The second walk has numbered them alike.
+-- This is missing of these tasks, one by one, all of which have ended. (The second walk has numbered them alike, and knows of no more: the law `walks_number_alike` of oss_missing_laws.)
 abbrev pub AreTasksMissing : List Item → List (Option Asking) → List (Option Holding) → List TaskMissing → Type 0
 AreTasksMissing all [] hs [] = Unit {0}
 AreTasksMissing all (Some t ∷ ts) hs (k ∷ ks) = IsTaskMissing all t (first_known hs) k × AreTasksMissing all ts (others hs) ks

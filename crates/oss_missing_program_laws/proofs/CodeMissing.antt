@@ -1,6 +1,6 @@
 -- What is missing of the code of a program is missing of the program itself.
-use Rattle.std.proofs.Common.{◌≡◌, ◌∙◌, ℕ, ◌+◌, ◌-◌, ◌<◌, ◌≤◌, true, false, List, [], ◌∷◌, ◌++◌, length, refl, sym, ap, subst, arith}
-use Rattle.std.specs.Prelude.{◌↔◌, map, pos, replicate}
+use Rattle.std.proofs.Common.{◌≡◌, ◌∙◌, ℕ, ◌+◌, ◌-◌, ◌<◌, ◌≤◌, true, false, List, [], ◌∷◌, length, refl, sym, ap, subst, arith}
+use Rattle.std.specs.Prelude.{pos, replicate}
 use Rattle.std.proofs.lemmas.List.{length-append, length-replicate}
 use Rattle.oss_syntax.specs.declared.tree.program.Item.{Item}
 use Rattle.oss_syntax.specs.declared.tree.program.Item.TheVariants as items
@@ -12,7 +12,7 @@ use Rattle.oss_model.specs.Bodies.Ask.{Await, Begin, Create, End, Fails, Fold, P
 use Rattle.oss_model.specs.Marks.{AsksFor}
 use Rattle.oss_meaning.specs.Expressions.{TaskBody, TreeScript}
 use Rattle.oss_meaning.specs.Meaning.{asks_of}
-use Rattle.oss_meaning.specs.Pointers.{Extent, extents_from, extents_of}
+use Rattle.oss_meaning.specs.Pointers.{Extent, extents_from}
 use Rattle.oss_meaning.specs.Results.{first_cells, main_of, main_order}
 use Rattle.oss_code.specs.Globals.{extents_in}
 use Rattle.oss_code.specs.declared.code.CodeParts.{CodeParts}
@@ -20,7 +20,7 @@ use Rattle.oss_code.specs.declared.global.GlobalPlace.{GlobalPlace}
 use Rattle.oss_machine.specs.Frames.{CodeScript}
 use Rattle.oss_machine.specs.Machines.{asks}
 use Rattle.oss_lower_laws.specs.Lowered.{IsLowered}
-use Rattle.oss_lower_laws.specs.Programs.{IsCodeOf, code_order, code_start, moved_ask as code_ask, moved_asked as code_asked, moved_script}
+use Rattle.oss_lower_laws.specs.Programs.{IsCodeOf, code_start, moved_ask as code_ask, moved_script}
 use Rattle.oss_lower_laws.proofs.OutcomeLaws.{cells_are, start_is}
 use Rattle.oss_freed.specs.Freed.{TouchesItsCells}
 use Rattle.oss_missing_lines.specs.declared.missing.Missing.{Missing}
@@ -30,7 +30,7 @@ use Rattle.oss_missing.specs.Missing.{IsMissing}
 use Rattle.oss_missing_program_laws.specs.Exact.{CodesEndWellAlike}
 use Rattle.oss_missing_program_laws.proofs.EmptyPieces.{cells_from}
 use Rattle.oss_missing_program_laws.proofs.ExactTheorem.{IsMissingOf, missing_back, missing_of}
-use Rattle.oss_missing_program_laws.proofs.MovedBodies.{AskAlike, moved_ask, moved_asked, moved_start}
+use Rattle.oss_missing_program_laws.proofs.MovedBodies.{AskAlike, moved_ask, moved_start}
 use Rattle.oss_missing_program_laws.proofs.MovedWalks.{well_back, well_forth}
 
 -- How many cells a program has
@@ -169,10 +169,10 @@ codes_end_well_alike all code of fuel = (forth, back)
     forth h =
         subst (λ (first : List ℕ). EndsWell (asks code) (code_start code fuel) first) (sym of.first)
         (subst (λ (main : Start CodeScript). EndsWell (asks code) main (first_cells all)) (start_is all code of fuel)
-          (well_forth (moved_script of.places) (asks_of all) (asks code) (code_alike all code of) (main_of all fuel) (first_cells all) h))
+        (well_forth (moved_script of.places) (asks_of all) (asks code) (code_alike all code of) (main_of all fuel) (first_cells all) h))
 
     back : EndsWell (asks code) (code_start code fuel) code.first → EndsWell (asks_of all) (main_of all fuel) (first_cells all)
     back h =
         well_back (moved_script of.places) (asks_of all) (asks code) (code_alike all code of) (main_of all fuel) (first_cells all)
         (subst (λ (main : Start CodeScript). EndsWell (asks code) main (first_cells all)) (sym (start_is all code of fuel))
-          (subst (λ (first : List ℕ). EndsWell (asks code) (code_start code fuel) first) of.first h))
+        (subst (λ (first : List ℕ). EndsWell (asks code) (code_start code fuel) first) of.first h))

@@ -1,16 +1,14 @@
 -- No clause is told to be lacking exactly where of no cell of the program one is.
-use Rattle.std.proofs.Common.{◌≡◌, ◌∙◌, ℕ, ◌+◌, ◌<◌, ◌≤◌, ◌⊎◌, inl, inr, Bool, true, false, List, [], ◌∷◌, Option, Some, None, refl, sym, ap, subst, arith}
+use Rattle.std.proofs.Common.{◌≡◌, ◌∙◌, ℕ, ◌<◌, ◌≤◌, ◌⊎◌, inl, inr, Bool, true, false, List, [], ◌∷◌, Option, Some, None, refl, sym, ap, arith}
 use Rattle.std.specs.Prelude.{◌||◌, if◌then◌else◌}
 use Rattle.std.proofs.lemmas.Bool.{or_from, true≢false}
 use Rattle.std.proofs.lemmas.Bool.Decides.{nat_tests}
 use Rattle.oss_syntax.specs.declared.access.Access.{Access}
 use Rattle.oss_syntax.specs.declared.access.Mode.{Mode}
 use Rattle.oss_syntax.specs.declared.access.Mode.TheVariants as mode
-use Rattle.oss_syntax.specs.declared.access.Op.{Op}
 use Rattle.oss_syntax.specs.declared.access.Op.TheVariants as op
 use Rattle.oss_syntax.specs.declared.tree.program.Item.{Item}
 use Rattle.oss_ranges.specs.Cells.{is_within}
-use Rattle.oss_pieces.specs.Pieces.{ArePieces}
 use Rattle.oss_explanation.specs.declared.explained.Held.{Held}
 use Rattle.oss_explanation.specs.declared.explained.Word.{Word}
 use Rattle.oss_explanation.specs.Held.{AreHeld, all_words, is_word}
@@ -148,7 +146,7 @@ module _ (all : List Item) (n : ℕ) (few : n ≤ 1048576) (cells : n ≤ cells_
       by (inl k) =
           nothing_kept (lack_of (given_of t.final t.clauses c) (t.asked c))
           (sym (ap (λ (b : Bool). if b then kept_lack (lack_of (given_of t.final t.clauses c) (t.asked c)) else None) inside)
-            ∙ nothing_lacking all (lacks_of t) t.final t.clauses h w (lacks_kept t) c (omega (arith, k, cells)))
+          ∙ nothing_lacking all (lacks_of t) t.final t.clauses h w (lacks_kept t) c (omega (arith, k, cells)))
 
 pub lacks_none : (t : Asking) → LacksNothing t → (c : ℕ) → lacks_of t c ≡ None
 lacks_none t h c = go (is_within 0 1048576 c) refl

@@ -1,9 +1,8 @@
 -- The laws of what is told of the program as which a text is accepted.
-use Rattle.std.proofs.Common.{ℕ}
+use Rattle.std.proofs.Common.{List}
 use Rattle.oss_syntax.specs.declared.tree.program.Item.{Item}
 use Rattle.oss_grammar.specs.TaskLoops.{program_written}
 use Rattle.oss_meaning.specs.Expressions.{TreeScript}
-use Rattle.oss_meaning.specs.Meaning.{asks_of}
 use Rattle.oss_code.specs.declared.code.CodeParts.{CodeParts}
 use Rattle.oss_lower_laws.specs.Lowered.{IsLowered}
 use Rattle.oss_lower_laws.proofs.ProgramLemmas.{codes_ask_alike}

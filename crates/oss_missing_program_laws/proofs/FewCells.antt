@@ -1,5 +1,5 @@
 -- Of a cell past the last one no clause of a task says anything, and no task asks anything of it.
-use Rattle.std.proofs.Common.{◌≡◌, ◌∙◌, ℕ, zero, suc, ◌+◌, ◌<◌, ◌≤◌, Bool, true, false, List, [], ◌∷◌, ◌++◌, map, Option, Some, None, refl, sym, ap, subst, arith}
+use Rattle.std.proofs.Common.{◌≡◌, ◌∙◌, ℕ, zero, suc, ◌+◌, ◌<◌, ◌≤◌, Bool, true, false, List, [], ◌∷◌, ◌++◌, map, Option, Some, None, refl, ap, subst, arith}
 use Rattle.std.specs.Prelude.{◌&&◌, ◌||◌, if◌then◌else◌, get_or, nat_le, nat_lt, set}
 use Rattle.std.proofs.lemmas.Bool.{and_left, and_right, false_from_ne_true, or_from, or_parts}
 use Rattle.std.proofs.lemmas.Bool.Decides.{nat_tests}
@@ -22,7 +22,7 @@ use Rattle.oss_needs.specs.Lacks.{lack_of, mended}
 use Rattle.oss_task_needs.specs.Asking.{Asked, asks, creates}
 use Rattle.oss_open_needs.specs.Opening.{releases, waits}
 use Rattle.oss_lacks.specs.Asking.{Asking, asked_by, asking, behind_ask, created_by, main as main_asking, mended_clauses, range_of, tell_creator}
-use Rattle.oss_lacks.specs.Nests.{Nest, Numbered, all_closed, all_closed_to, alone, closed, closed_to, opened, with_acting}
+use Rattle.oss_lacks.specs.Nests.{Nest, Numbered, all_closed, all_closed_to, closed_to, with_acting}
 use Rattle.oss_lacks.specs.Walks.{Walks, behind}
 use Rattle.oss_lacks.specs.Walks.Walks.{opens, runs_on}
 use Rattle.oss_missing_laws.specs.Programs.{AreWithin, IsNaming, NamesItsCells}

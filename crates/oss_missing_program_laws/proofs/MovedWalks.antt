@@ -2,12 +2,12 @@
 use Rattle.std.proofs.Common.{◌≡◌, ◌∙◌, ℕ, Bool, true, false, List, [], ◌∷◌, length, map, refl, sym, ap, subst}
 use Rattle.std.specs.Prelude.{if◌then◌else◌}
 use Rattle.oss_syntax.specs.declared.fault.FaultKind.{FaultKind}
-use Rattle.oss_model.specs.Bodies.{Act, Ask, Asked, Frame, IsFault, Order, Program, Stack, Start, ask_of, stack_from, top_frame}
+use Rattle.oss_model.specs.Bodies.{Act, Ask, Asked, Frame, IsFault, Program, Stack, Start, ask_of, stack_from, top_frame}
 use Rattle.oss_model.specs.Bodies.Ask.{Await, Begin, Create, End, Fails, Fold, Print, Read, Release, Tick, Wait, WaitOn, Write}
 use Rattle.oss_model.specs.Bodies.Act.{Awaited, Created, Ended, Fault, Folded, Load, Over, Printed, Releases, Store, Ticked, Waited, WaitedOn}
 use Rattle.oss_model.specs.Machine.{Task}
 use Rattle.oss_model.specs.Moves.{act_now}
-use Rattle.oss_model.specs.Sequence.{IsAtEnd, Running}
+use Rattle.oss_model.specs.Sequence.{Running}
 use Rattle.oss_freed.specs.Freed.{freed, freed_ask}
 use Rattle.oss_lacks.specs.Asking.{Asking, behind_ask}
 use Rattle.oss_lacks.specs.Nests.{Nest}
@@ -20,7 +20,7 @@ use Rattle.oss_missing_laws.specs.Missing.{EndsWell}
 use Rattle.oss_missing_laws.specs.Programs.{IsNotWrong}
 use Rattle.oss_missing_laws.proofs.SameLemmas.{IsSame, same_still}
 use Rattle.oss_missing_program_laws.proofs.MovedBack.{acts_back, end_back, on_back, run_back}
-use Rattle.oss_missing_program_laws.proofs.MovedBodies.{AskAlike, ask_is, moved_act, moved_ask, moved_asked, moved_frame, moved_start, stands_alike}
+use Rattle.oss_missing_program_laws.proofs.MovedBodies.{AskAlike, ask_is, moved_act, moved_ask, moved_frame, moved_start, stands_alike}
 use Rattle.oss_missing_program_laws.proofs.MovedRuns.{act_is, end_is, moved_body, moved_running, sequential_alike}
 
 -- The fault of a moved act is the act's own.

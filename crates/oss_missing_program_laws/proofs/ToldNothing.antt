@@ -1,5 +1,5 @@
 -- What is told of the tasks of a list is nothing exactly if their clauses lack nothing and no line was told of them.
-use Rattle.std.proofs.Common.{◌≡◌, ◌∙◌, ℕ, zero, suc, ◌≤◌, List, [], ◌∷◌, length, Option, Some, None, refl, sym, ap, subst, arith}
+use Rattle.std.proofs.Common.{◌≡◌, ℕ, zero, suc, ◌≤◌, List, [], ◌∷◌, length, Option, Some, None, refl, ap, subst, arith}
 use Rattle.std.specs.Prelude.{get_or}
 use Rattle.oss_syntax.specs.declared.tree.program.Item.{Item}
 use Rattle.oss_explanation.specs.declared.explained.Held.{Held}
@@ -12,7 +12,7 @@ use Rattle.oss_lack_words.specs.Told.{AreLacking, AreWanting}
 use Rattle.oss_missing_waits.specs.Holding.{Holding, Told}
 use Rattle.oss_missing_waits.specs.Lines.{AreLines}
 use Rattle.oss_missing.specs.Making.{others}
-use Rattle.oss_missing.specs.Missing.{AreAllMissing, AreLinesOf, AreTasksMissing, IsMainMissing, IsTaskMissing, first_known, lacks_of}
+use Rattle.oss_missing.specs.Missing.{AreAllMissing, AreLinesOf, AreTasksMissing, first_known, lacks_of}
 use Rattle.oss_missing_laws.specs.Numbers.{AreOneByOne}
 use Rattle.oss_missing_laws.specs.Programs.{LacksNothing, NothingTold}
 use Rattle.oss_missing_program_laws.specs.Exact.{AreToldNothing, IsTaskToldNothing}

@@ -1,6 +1,6 @@
 -- Nothing is told of the clauses of a program exactly if its own run ends without a fault of annotations.
 -- Read against: a main that creates a task with `out(x)`, which stores 1 into x, then waits and prints x. Of no task is a clause told, and no line is; the program's run ends, with `1` printed. Without the wait main is told that one is missing before the print, and the run stands there before
--- Lent. With `in(x)` the task is told that it lacks `inout(x)`, and the run stands before NoRight at its store. If the task divides by 0 behind the store, nothing is told of clauses, and the fault is told: it is that of the program's run, on the same line.
+-- Lent. With `in(x)` the task is told that it lacks `out(x)`, and the run stands before NoRight at its store. If the task divides by 0 behind the store, nothing is told of clauses, and the fault is told: it is that of the program's run, on the same line.
 use Rattle.std.specs.Prelude.{◌≡◌, ◌↔◌, ℕ, List, [], ◌∷◌, Option, Some, None}
 use Rattle.oss_syntax.specs.declared.tree.program.Item.{Item}
 use Rattle.oss_syntax.specs.declared.tree.program.Program.{Program as Tree}

@@ -35,7 +35,8 @@ use Rattle.oss_missing_waits.specs.Holding.{Holding, IsUse, Waits, has_wait, hin
 use Rattle.oss_missing_waits.specs.Kept.{IsHolding, IsUseThen, Leads, LeadsTo, touched_under, waits_for}
 use Rattle.oss_missing_waits.specs.Lines.{AreLines, AreTaskLines}
 use Rattle.oss_missing_waits.specs.Waits.{IsBehindAsk, IsDirective, IsTouched, Mended, at_stop, tell_nothing}
-use Rattle.oss_missing_waits.proofs.EndLemmas.{all_told, ends_opened, told_length, told_more, told_set}
+use Rattle.oss_lacks.proofs.NestLemmas.{ends_opened}
+use Rattle.oss_missing_waits.proofs.EndLemmas.{all_told, told_length, told_more, told_set}
 
 -- What no event changes
 

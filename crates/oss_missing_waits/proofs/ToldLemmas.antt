@@ -1,6 +1,12 @@
 -- What each event makes of a task that is kept.
 use Rattle.std.proofs.Common.{◌≡◌, ◌≤◌, ◌<◌, ◌⊎◌, inl, inr, refl, sym, subst, ap, ◌∙◌, ℕ, Bool, true, false, List, [], ◌∷◌, ◌++◌, Option, Some, None, arith}
-use Rattle.std.specs.Prelude.{◌||◌, ◌&&◌, ◌==◌, if◌then◌else◌, is_some}
+use Rattle.std.specs.Prelude.{◌||◌, ◌&&◌, ◌==◌, cond, if◌then◌else◌, is_some}
+use Rattle.std.specs.BTreeSet.{BTreeSet}
+use Rattle.std.specs.List.{list_any}
+use Rattle.std.specs.Ordering.{MatchOrdering, is_eq, nat_cmp}
+use Rattle.std.specs.declared.cmp.Ordering.{Ordering}
+use Rattle.std.specs.declared.cmp.Ordering.TheVariants.{Equal, Greater, Less}
+use Rattle.std.proofs.lemmas.Cmp.{ranked}
 use Rattle.std.proofs.Math.Path.{fun_ext}
 use Rattle.std.proofs.lemmas.Bool.Decides.{nat_tests}
 use Rattle.oss_syntax.specs.declared.access.Access.{Access}
@@ -30,7 +36,7 @@ use Rattle.oss_explanation.specs.declared.explained.Word.{Word}
 use Rattle.oss_missing_lines.specs.Words.{word_by}
 use Rattle.oss_missing_waits.specs.declared.holding.HoldingTask.{HoldingTask}
 use Rattle.oss_missing_waits.specs.Holding.{Holding, IsUse, Told, Uses, Waits, has_use, has_wait, hinderer, known, lent_when, new_task, none, releases, told, told_wait, waits_before, with_lent, with_told}
-use Rattle.oss_missing_waits.specs.Kept.{IsHolding, IsToldUse, IsUseThen, Leads, LeadsTo, lines_have_use, lines_have_wait, touch_of, touched_under, waits_for}
+use Rattle.oss_missing_waits.specs.Kept.{IsHolding, IsToldUse, IsUseThen, Leads, LeadsTo, has_line, touch_of, touched_under, waits_for}
 use Rattle.oss_missing_waits.specs.Lines.{AreLines, IsLine, touching_by}
 use Rattle.oss_missing_waits.proofs.UsingLemmas.{AreAdded, clauses_bounded}
 
@@ -42,25 +48,51 @@ lines_more all [] (x ∷ ls) t l h m = absurd h
 lines_more all (u ∷ ts) [] t l h m = absurd h
 lines_more all (u ∷ ts) (x ∷ ls) t l h m = (h.0, lines_more all ts ls t l h.1 m)
 
-pub uses_alike : (all : List Item) (ts : List Told) (ls : List Late) (line : ℕ) → AreLines all ts ls → lines_have_use ls line ≡ has_use ts line
-uses_alike all [] [] line h = refl
-uses_alike all [] (x ∷ ls) line h = absurd h
-uses_alike all (Waits touch c n child ∷ ts) [] line h = absurd h
-uses_alike all (Uses cells n ∷ ts) [] line h = absurd h
-uses_alike all (Waits touch c n child ∷ ts) (late.Wait w ∷ ls) line h = uses_alike all ts ls line h.1
-uses_alike all (Waits touch c n child ∷ ts) (late.Use u ∷ ls) line h = absurd h.0
-uses_alike all (Uses cells n ∷ ts) (late.Wait w ∷ ls) line h = absurd h.0
-uses_alike all (Uses cells n ∷ ts) (late.Use u ∷ ls) line h = ap (λ (k : ℕ). k == line || lines_have_use ls line) h.0.line_is ∙ ap (λ (b : Bool). n == line || b) (uses_alike all ts ls line h.1)
+-- the order in which two tests stand is all one
+swapped : (a b c : Bool) → (a || (b || c)) ≡ (b || (a || c))
+swapped true true c = refl
+swapped true false c = refl
+swapped false b c = refl
 
-pub waits_alike : (all : List Item) (ts : List Told) (ls : List Late) (line : ℕ) → AreLines all ts ls → lines_have_wait ls line ≡ has_wait ts line
-waits_alike all [] [] line h = refl
-waits_alike all [] (x ∷ ls) line h = absurd h
-waits_alike all (Waits touch c n child ∷ ts) [] line h = absurd h
-waits_alike all (Uses cells n ∷ ts) [] line h = absurd h
-waits_alike all (Waits touch c n child ∷ ts) (late.Wait w ∷ ls) line h = ap (λ (k : ℕ). k == line || lines_have_wait ls line) h.0.line_is ∙ ap (λ (b : Bool). n == line || b) (waits_alike all ts ls line h.1)
-waits_alike all (Waits touch c n child ∷ ts) (late.Use u ∷ ls) line h = absurd h.0
-waits_alike all (Uses cells n ∷ ts) (late.Wait w ∷ ls) line h = absurd h.0
-waits_alike all (Uses cells n ∷ ts) (late.Use u ∷ ls) line h = waits_alike all ts ls line h.1
+-- with one more line of a kind that line is told too, and of the other kind none is
+more_uses : (ts : List Told) (cells : ℕ → Bool) (line other : ℕ) → has_use (ts ++ Uses cells line ∷ []) other ≡ (line == other || has_use ts other)
+more_uses [] cells line other = refl
+more_uses (Waits touch c n child ∷ ts) cells line other = more_uses ts cells line other
+more_uses (Uses some n ∷ ts) cells line other = ap (λ (b : Bool). n == other || b) (more_uses ts cells line other) ∙ swapped (n == other) (line == other) (has_use ts other)
+
+same_waits : (ts : List Told) (cells : ℕ → Bool) (line other : ℕ) → has_wait (ts ++ Uses cells line ∷ []) other ≡ has_wait ts other
+same_waits [] cells line other = refl
+same_waits (Waits touch c n child ∷ ts) cells line other = ap (λ (b : Bool). n == other || b) (same_waits ts cells line other)
+same_waits (Uses some n ∷ ts) cells line other = same_waits ts cells line other
+
+more_waits : (ts : List Told) (touch : Touch) (c line : ℕ) (child : Holder) (other : ℕ) → has_wait (ts ++ Waits touch c line child ∷ []) other ≡ (line == other || has_wait ts other)
+more_waits [] touch c line child other = refl
+more_waits (Waits t d n k ∷ ts) touch c line child other = ap (λ (b : Bool). n == other || b) (more_waits ts touch c line child other) ∙ swapped (n == other) (line == other) (has_wait ts other)
+more_waits (Uses some n ∷ ts) touch c line child other = more_waits ts touch c line child other
+
+same_uses : (ts : List Told) (touch : Touch) (c line : ℕ) (child : Holder) (other : ℕ) → has_use (ts ++ Waits touch c line child ∷ []) other ≡ has_use ts other
+same_uses [] touch c line child other = refl
+same_uses (Waits t d n k ∷ ts) touch c line child other = same_uses ts touch c line child other
+same_uses (Uses some n ∷ ts) touch c line child other = ap (λ (b : Bool). n == other || b) (same_uses ts touch c line child other)
+
+-- A set of lines has one more.
+abbrev pub HasMore : ℕ → BTreeSet ℕ → BTreeSet ℕ → Type 0
+HasMore line old new = (other : ℕ) → has_line new other ≡ cond (is_eq (nat_cmp line other)) true (has_line old other)
+
+alike_lines : (line other : ℕ) → is_eq (nat_cmp line other) ≡ line == other
+alike_lines line other = go (nat_cmp line other) (ranked line other (nat_cmp line other) refl)
+  where
+    go : (o : Ordering) → MatchOrdering o (line < other) (line ≡ other) (other < line) → is_eq o ≡ line == other
+    go Less l = grind (arith, nat_tests, l)
+    go Equal e = grind (arith, nat_tests, e)
+    go Greater l = grind (arith, nat_tests, l)
+
+line_more : (line other : ℕ) (old new : BTreeSet ℕ) → HasMore line old new → has_line new other ≡ (line == other || has_line old other)
+line_more line other old new more = more other ∙ (ap (λ (b : Bool). cond b true (has_line old other)) (alike_lines line other) ∙ either (line == other))
+  where
+    either : (b : Bool) → cond b true (has_line old other) ≡ (b || has_line old other)
+    either true = refl
+    either false = refl
 
 touching_is : (t : Touching) → t ≡ touching_by (touch_of t)
 touching_is Reading = refl
@@ -89,19 +121,19 @@ use_none layout used line t free cells are all h laid s = (h, (none (λ c x y. n
     never c x y (inr l) = let e : true ≡ false = sym y ∙ s.past c l in absurd cc
 
 -- One was told on this line.
-pub use_known : (layout : List Grid) (used : SetOfCells) (line : ℕ) (t : HoldingTask) → lines_have_use t.told line ≡ true → IsToldUse layout used line t t
-use_known layout used line t has_one cells are all h laid s = (h, (known (sym (uses_alike all h.told t.told line s.told) ∙ has_one), s))
+pub use_known : (layout : List Grid) (used : SetOfCells) (line : ℕ) (t : HoldingTask) → has_line t.uses line ≡ true → IsToldUse layout used line t t
+use_known layout used line t has_one cells are all h laid s = (h, (known (sym (s.uses line) ∙ has_one), s))
 
 -- It is told.
-pub use_told : (layout : List Grid) (used : SetOfCells) (line cell : ℕ) (found : List Part) (old new : HoldingTask) → has used cell ≡ true → lines_have_use old.told line ≡ false
+pub use_told : (layout : List Grid) (used : SetOfCells) (line cell : ℕ) (found : List Part) (old new : HoldingTask) → has used cell ≡ true → has_line old.uses line ≡ false
     → ((all : List Item) → layout ≡ grids_from all 0 → ArePieces (has used) all 0 0 found)
-    → new.lent ≡ old.lent → new.released ≡ old.released → new.told ≡ old.told ++ late.Use (record { cells = found; line = line }) ∷ [] → IsToldUse layout used line old new
-use_told layout used line cell found old new held has_none pieces lent released lines cells are all h laid s =
+    → new.lent ≡ old.lent → new.released ≡ old.released → new.told ≡ old.told ++ late.Use (record { cells = found; line = line }) ∷ [] → new.waits ≡ old.waits → HasMore line old.uses new.uses → IsToldUse layout used line old new
+use_told layout used line cell found old new held has_none pieces lent released lines waits uses cells are all h laid s =
     let same : (c : ℕ) → has used c ≡ (cells c && h.released c) = λ c. are c ∙ ap (λ (b : Bool). cells c && b) (s.released c) in
     let yes = both (cells cell) (h.released cell) (sym (same cell) ∙ held) in (
       with_told (Uses (λ d. cells d && h.released d) line) h,
       (
-        told cell yes.0 yes.1 (sym (uses_alike all h.told old.told line s.told) ∙ has_none),
+        told cell yes.0 yes.1 (sym (s.uses line) ∙ has_none),
         record {
           lent = subst (λ (ps : List (Piece Lent)). AreLent h.lent ps) (sym lent) s.lent;
           released = λ c. ap (λ (r : SetOfCells). has r c) released ∙ s.released c;
@@ -110,22 +142,24 @@ use_told layout used line cell found old new held has_none pieces lent released 
               subst (λ (ls : List Late). AreLines all (h.told ++ Uses (λ d. cells d && h.released d) line ∷ []) ls) (sym lines)
               (lines_more all h.told old.told (Uses (λ d. cells d && h.released d) line) (late.Use (record { cells = found; line = line })) s.told
               (record { pieces = subst (λ (test : ℕ → Bool). ArePieces test all 0 0 found) (fun_ext same) (pieces all laid); line_is = refl }));
+          waits = λ other. ap (λ (ls : BTreeSet ℕ). has_line ls other) waits ∙ s.waits other ∙ sym (same_waits h.told (λ d. cells d && h.released d) line other);
+          uses = λ other. line_more line other old.uses new.uses uses ∙ ap (λ (b : Bool). line == other || b) (s.uses other) ∙ sym (more_uses h.told (λ d. cells d && h.released d) line other);
         },
       ),
     )
 
 -- A missing wait
 
-pub wait_known : (touch : Touch) (c line : ℕ) (child : Holder) (t : HoldingTask) → lines_have_wait t.told line ≡ true → LeadsTo (told_wait touch c line child) t t
+pub wait_known : (touch : Touch) (c line : ℕ) (child : Holder) (t : HoldingTask) → has_line t.waits line ≡ true → LeadsTo (told_wait touch c line child) t t
 wait_known touch c line child t has_one all h s =
-    let e : has_wait h.told line ≡ true = sym (waits_alike all h.told t.told line s.told) ∙ has_one in
+    let e : has_wait h.told line ≡ true = sym (s.waits line) ∙ has_one in
     subst (λ (b : Bool). IsHolding all (if b then h else with_told (Waits touch c line child) h) t) (sym e) s
 
-pub wait_told : (touch : Touching) (c line : ℕ) (child : Holder) (old new : HoldingTask) (word : Word) → lines_have_wait old.told line ≡ false → word ≡ word_by child.clause
+pub wait_told : (touch : Touching) (c line : ℕ) (child : Holder) (old new : HoldingTask) (word : Word) → has_line old.waits line ≡ false → word ≡ word_by child.clause
     → new.lent ≡ old.lent → new.released ≡ old.released
-    → new.told ≡ old.told ++ late.Wait (record { touch = touch; cell = c; line = line; child = child.number; created = child.line; word = word }) ∷ [] → LeadsTo (told_wait (touch_of touch) c line child) old new
-wait_told touch c line child old new word has_none word_is lent released lines all h s =
-    let e : has_wait h.told line ≡ false = sym (waits_alike all h.told old.told line s.told) ∙ has_none in
+    → new.told ≡ old.told ++ late.Wait (record { touch = touch; cell = c; line = line; child = child.number; created = child.line; word = word }) ∷ [] → HasMore line old.waits new.waits → new.uses ≡ old.uses → LeadsTo (told_wait (touch_of touch) c line child) old new
+wait_told touch c line child old new word has_none word_is lent released lines waits uses all h s =
+    let e : has_wait h.told line ≡ false = sym (s.waits line) ∙ has_none in
     let w : MissingWait = record { touch = touch; cell = c; line = line; child = child.number; created = child.line; word = word } in
     let t : Told = Waits (touch_of touch) c line child in
     subst (λ (b : Bool). IsHolding all (if b then h else with_told t h) new) (sym e)
@@ -144,28 +178,32 @@ wait_told touch c line child old new word has_none word_is lent released lines a
             created = refl;
             word = word_is;
           }));
+      waits = λ other. line_more line other old.waits new.waits waits ∙ ap (λ (b : Bool). line == other || b) (s.waits other) ∙ sym (more_waits h.told (touch_of touch) c line child other);
+      uses = λ other. ap (λ (ls : BTreeSet ℕ). has_line ls other) uses ∙ s.uses other ∙ sym (same_uses h.told (touch_of touch) c line child other);
     })
 
 -- What is lent
 
 -- The same with other cells lent.
-lent_now : (all : List Item) (h : Holding) (old new : HoldingTask) (lent : ℕ → Option Lent) → IsHolding all h old → AreLent lent new.lent → new.released ≡ old.released → new.told ≡ old.told → IsHolding all (with_lent lent h) new
-lent_now all h old new lent s now released lines = record {
+lent_now : (all : List Item) (h : Holding) (old new : HoldingTask) (lent : ℕ → Option Lent) → IsHolding all h old → AreLent lent new.lent → new.released ≡ old.released → new.told ≡ old.told → new.waits ≡ old.waits → new.uses ≡ old.uses → IsHolding all (with_lent lent h) new
+lent_now all h old new lent s now released lines waits uses = record {
   lent = now;
   released = λ c. ap (λ (r : SetOfCells). has r c) released ∙ s.released c;
   past = s.past;
   told = subst (λ (ls : List Late). AreLines all h.told ls) (sym lines) s.told;
+  waits = λ other. ap (λ (ls : BTreeSet ℕ). has_line ls other) waits ∙ s.waits other;
+  uses = λ other. ap (λ (ls : BTreeSet ℕ). has_line ls other) uses ∙ s.uses other;
 }
 
-pub waits_more : (old new : HoldingTask) → AreLent nothing_lent new.lent → new.released ≡ old.released → new.told ≡ old.told → LeadsTo (with_lent nothing_lent) old new
-waits_more old new now released lines all h s = lent_now all h old new nothing_lent s now released lines
+pub waits_more : (old new : HoldingTask) → AreLent nothing_lent new.lent → new.released ≡ old.released → new.told ≡ old.told → new.waits ≡ old.waits → new.uses ≡ old.uses → LeadsTo (with_lent nothing_lent) old new
+waits_more old new now released lines waits uses all h s = lent_now all h old new nothing_lent s now released lines waits uses
 
-pub lends_more : (k : Child) (ks : List (Piece Clause)) (old new : HoldingTask) → AreLends k ks old.lent new.lent → new.released ≡ old.released → new.told ≡ old.told
+pub lends_more : (k : Child) (ks : List (Piece Clause)) (old new : HoldingTask) → AreLends k ks old.lent new.lent → new.released ≡ old.released → new.told ≡ old.told → new.waits ≡ old.waits → new.uses ≡ old.uses
     → LeadsTo (lent_when true k.number k.line (all_counted k.is_final (value_at ks))) old new
-lends_more k ks old new now released lines all h s = lent_now all h old new _ s (now h.lent s.lent) released lines
+lends_more k ks old new now released lines waits uses all h s = lent_now all h old new _ s (now h.lent s.lent) released lines waits uses
 
-pub waits_on_more : (named : List Range) (old new : HoldingTask) → AreWaitedFor named old.lent new.lent → new.released ≡ old.released → new.told ≡ old.told → LeadsTo (waits_for named) old new
-waits_on_more named old new now released lines all h s = lent_now all h old new _ s (now h.lent s.lent) released lines
+pub waits_on_more : (named : List Range) (old new : HoldingTask) → AreWaitedFor named old.lent new.lent → new.released ≡ old.released → new.told ≡ old.told → new.waits ≡ old.waits → new.uses ≡ old.uses → LeadsTo (waits_for named) old new
+waits_on_more named old new now released lines waits uses all h s = lent_now all h old new _ s (now h.lent s.lent) released lines waits uses
 
 -- It lends, or does not.
 pub lends_when : (k : Child) (ks : List (Piece Clause)) (lends : Bool) (old new : HoldingTask) → lends ≡ true → LeadsTo (lent_when true k.number k.line (all_counted k.is_final (value_at ks))) old new → LeadsTo (lent_when lends k.number k.line (all_counted k.is_final (value_at ks))) old new
@@ -176,12 +214,14 @@ lends_nothing k ks lends t e = subst (λ (b : Bool). LeadsTo (lent_when b k.numb
 
 -- What is released
 
-pub releases_more : (clauses : List Access) (old new : HoldingTask) → AreAdded clauses old.released new.released → new.lent ≡ old.lent → new.told ≡ old.told → LeadsTo (releases clauses) old new
-releases_more clauses old new now lent lines all h s = record {
+pub releases_more : (clauses : List Access) (old new : HoldingTask) → AreAdded clauses old.released new.released → new.lent ≡ old.lent → new.told ≡ old.told → new.waits ≡ old.waits → new.uses ≡ old.uses → LeadsTo (releases clauses) old new
+releases_more clauses old new now lent lines waits uses all h s = record {
   lent = subst (λ (ps : List (Piece Lent)). AreLent h.lent ps) (sym lent) s.lent;
   released = λ c. now c ∙ ap (λ (b : Bool). in_clauses clauses c || b) (s.released c);
   past = λ c l. ap (λ (b : Bool). b || h.released c) (clauses_bounded clauses c l) ∙ s.past c l;
   told = subst (λ (ls : List Late). AreLines all h.told ls) (sym lines) s.told;
+  waits = λ other. ap (λ (ls : BTreeSet ℕ). has_line ls other) waits ∙ s.waits other;
+  uses = λ other. ap (λ (ls : BTreeSet ℕ). has_line ls other) uses ∙ s.uses other;
 }
 
 -- A clause counts where there is one.
@@ -212,11 +252,13 @@ touch_lent clause touch c line child old mid new hinders first second all h s =
     subst (λ (o : Option Holder). IsHolding all (waits_before touch c line o h) new) (sym e) (second all (told_wait touch c line child h) (first all h s))
 
 -- A task before its first act.
-pub new_holding : (t : HoldingTask) → AreLent nothing_lent t.lent → ((c : ℕ) → has t.released c ≡ false) → t.told ≡ [] → (all : List Item) (path : List ℕ) (line : ℕ) (clauses : ℕ → Option Clause)
+pub new_holding : (t : HoldingTask) → AreLent nothing_lent t.lent → ((c : ℕ) → has t.released c ≡ false) → t.told ≡ [] → t.waits.keys ≡ [] → t.uses.keys ≡ [] → (all : List Item) (path : List ℕ) (line : ℕ) (clauses : ℕ → Option Clause)
     → IsHolding all (new_task path line clauses) t
-new_holding t lent released lines all path line clauses = record {
+new_holding t lent released lines waits uses all path line clauses = record {
   lent = lent;
   released = released;
   past = λ c l. refl;
   told = subst (λ (ls : List Late). AreLines all [] ls) (sym lines) tt;
+  waits = λ line. ap (λ (ks : List ℕ). list_any (λ k. is_eq (nat_cmp line k)) ks) waits;
+  uses = λ line. ap (λ (ks : List ℕ). list_any (λ k. is_eq (nat_cmp line k)) ks) uses;
 }

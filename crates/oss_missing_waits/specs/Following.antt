@@ -12,10 +12,10 @@ use Rattle.oss_needs.specs.declared.clause.Clause.{Clause}
 use Rattle.oss_lent_cells.specs.Lent.{counted_if}
 use Rattle.oss_missing_lines.specs.declared.missing.Late.{Late}
 use Rattle.oss_lacks.specs.declared.lacks.TaskLacks.{TaskLacks}
+use Rattle.oss_lacks.specs.Following.{AllWillEnd}
 use Rattle.oss_lacks.specs.Nests.{Nest, Numbered, closed, opened, with_acting}
 use Rattle.oss_missing_waits.specs.declared.following.Following.{Following}
 use Rattle.oss_missing_waits.specs.declared.following.OpenTask.{OpenTask}
-use Rattle.oss_missing_waits.specs.Ending.{AllWillEnd}
 use Rattle.oss_missing_waits.specs.Holding.{Holding, IsUse, lent_when, new_task}
 use Rattle.oss_missing_waits.specs.Kept.{IsHolding}
 use Rattle.oss_missing_waits.specs.Lines.{AreLines, AreTaskLines}

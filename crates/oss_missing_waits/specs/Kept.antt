@@ -1,6 +1,8 @@
 -- How an open task of the second walk is kept, and what an event makes of it.
--- Read against: a task at the path 1, 0 has lent x to its child 0 and has released y. Kept are the pieces by which x is lent, the set of y alone, and the lines that were told of it. It releases x: of that it is not told, and x is in the set too.
+-- Read against: a task at the path 1, 0 has lent x to its child 0 and has released y. Kept are the pieces by which x is lent, the set of y alone, the lines that were told of it, and the sets of those on which a wait or a use was. It releases x: of that it is not told, and x is in the set too.
 use Rattle.std.specs.Prelude.{◌≡◌, ◌≤◌, ℕ, ◌==◌, Bool, false, ◌||◌, ◌&&◌, List, [], ◌∷◌, Option}
+use Rattle.std.specs.BTreeSet.{BTreeSet, contains}
+use Rattle.std.specs.Ordering.{nat_cmp}
 use Rattle.oss_syntax.specs.declared.access.Range.{Range}
 use Rattle.oss_syntax.specs.declared.tree.program.Item.{Item}
 use Rattle.oss_model.specs.Rights.{Folds, Reads, Touch, Writes}
@@ -13,11 +15,13 @@ use Rattle.oss_explanation.specs.declared.explained.Touching.TheVariants as touc
 use Rattle.oss_needs.specs.declared.clause.Clause.{Clause}
 use Rattle.oss_lent_cells.specs.Kept.{AreLent, in_ranges}
 use Rattle.oss_lent_cells.specs.Lent.{waited_for}
-use Rattle.oss_missing_lines.specs.declared.missing.Late.{Late}
-use Rattle.oss_missing_lines.specs.declared.missing.Late.TheVariants as late
 use Rattle.oss_missing_waits.specs.declared.holding.HoldingTask.{HoldingTask}
-use Rattle.oss_missing_waits.specs.Holding.{Holding, IsUse, hinderer, waits_before, with_lent}
+use Rattle.oss_missing_waits.specs.Holding.{Holding, IsUse, has_use, has_wait, hinderer, waits_before, with_lent}
 use Rattle.oss_missing_waits.specs.Lines.{AreLines}
+
+-- whether a set of lines has this one
+abbrev pub has_line : BTreeSet ℕ → ℕ → Bool
+has_line lines line = contains nat_cmp lines line
 
 -- A task is kept so.
 pub record IsHolding (all : List Item) (h : Holding) (t : HoldingTask) : Type 0 where
@@ -26,6 +30,9 @@ pub record IsHolding (all : List Item) (h : Holding) (t : HoldingTask) : Type 0 
   -- a program has no cell from there on
   pub past : (c : ℕ) → 1048576 ≤ c → h.released c ≡ false
   pub told : AreLines all h.told t.told
+  -- the lines of each kind that were told, for a search in a few steps
+  pub waits : (line : ℕ) → has_line t.waits line ≡ has_wait h.told line
+  pub uses : (line : ℕ) → has_line t.uses line ≡ has_use h.told line
 
 -- What is known of the task has become this.
 abbrev pub LeadsTo : (Holding → Holding) → HoldingTask → HoldingTask → Type 0
@@ -70,20 +77,3 @@ touched_under clause touch c line h = waits_before touch c line (hinderer clause
 -- It waits for the cells of these ranges.
 abbrev pub waits_for : List Range → Holding → Holding
 waits_for named h = with_lent (waited_for (in_ranges named) h.lent) h
-
--- whether one of the lines is a use on this line, or a missing wait
-abbrev pub is_use_at : Late → ℕ → Bool
-is_use_at (late.Use u) line = u.line == line
-is_use_at (late.Wait w) line = false
-
-abbrev pub is_wait_at : Late → ℕ → Bool
-is_wait_at (late.Use u) line = false
-is_wait_at (late.Wait w) line = w.line == line
-
-abbrev pub lines_have_use : List Late → ℕ → Bool
-lines_have_use [] line = false
-lines_have_use (l ∷ rest) line = is_use_at l line || lines_have_use rest line
-
-abbrev pub lines_have_wait : List Late → ℕ → Bool
-lines_have_wait [] line = false
-lines_have_wait (l ∷ rest) line = is_wait_at l line || lines_have_wait rest line

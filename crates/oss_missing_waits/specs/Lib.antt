@@ -2,6 +2,5 @@ pub mod Holding
 pub mod Waits
 pub mod Lines
 pub mod Kept
-pub mod Ending
 pub mod Following
 pub mod Beside

@@ -11,7 +11,6 @@ ghost use Rattle.oss_missing_waits.specs.Holding.{IsUse, lent_when, new_task, re
 ghost use Rattle.oss_missing_waits.specs.Kept.{IsHolding, IsToldUse, IsUseThen, Leads, LeadsTo, touch_of, touched_under, waits_for};
 
 use crate::hindering::hinderer;
-use crate::told::{has_use, has_wait};
 use crate::using::{cell_of, release_all, used_by_clauses, used_by_map, used_by_ranges, used_cell};
 use oss_explanation::Touching;
 use oss_lent_cells::{Child, Holder, LentCells};
@@ -21,6 +20,7 @@ use oss_pieces::{CellSet, Layout};
 use oss_ranges::RangeMap;
 use oss_syntax::{Access, List, Range};
 use std::alloc::{AllocError, Global};
+use std::collections::BTreeSet;
 
 /// An open task: what it has lent to its children, what it has released, and what was told of it, in the order of the run.
 pub(crate) struct HoldingTask {
@@ -28,6 +28,10 @@ pub(crate) struct HoldingTask {
     pub(crate) lent: LentCells,
     pub(crate) released: CellSet,
     pub(crate) told: List<Late>,
+    /// The lines on which a missing wait was told.
+    pub(crate) waits: BTreeSet<u32>,
+    /// The lines on which a use behind a release was told.
+    pub(crate) uses: BTreeSet<u32>,
 }
 
 // By hand, so that who lets one go calls this, and does not take it apart at each exit.
@@ -38,10 +42,14 @@ impl Drop for HoldingTask {
             lent,
             released,
             told,
+            waits,
+            uses,
         } = self;
         drop(lent);
         drop(released);
         drop(told);
+        drop(waits);
+        drop(uses);
     }
 }
 
@@ -54,11 +62,15 @@ impl HoldingTask {
         let lent = LentCells::new(alloc);
         let released = CellSet::new(alloc);
         let told = List::new(alloc);
+        let waits = BTreeSet::new(alloc);
+        let uses = BTreeSet::new(alloc);
         HoldingTask {
             alloc,
             lent,
             released,
             told,
+            waits,
+            uses,
         }
     }
 
@@ -71,9 +83,13 @@ impl HoldingTask {
             lent,
             released,
             told,
+            waits,
+            uses,
         } = self;
         drop(lent);
         drop(released);
+        drop(waits);
+        drop(uses);
         told
     }
 
@@ -104,7 +120,7 @@ impl HoldingTask {
     ) -> Result<(), AllocError>
         ensures { OnOk result (Leads layout.now
             (IsUseThen (λ c. is_some (all_counted child.is_final (value_at clauses.now.pieces) c)) child.line
-                (lent_when lends child.number child.line (all_counted child.is_final (value_at clauses.now.pieces))))
+            (lent_when lends child.number child.line (all_counted child.is_final (value_at clauses.now.pieces))))
             self.old self.new) }
     {
         self.use_map(layout, clauses, child.line)?;
@@ -203,12 +219,13 @@ impl HoldingTask {
         match cell_of(used) {
             None => Ok(()),
             Some(_cell) => {
-                let known = has_use(self.told.as_slice(), line);
+                let known = self.uses.contains(&line);
                 if known {
                     return Ok(());
                 }
                 let cells = layout.pieces(used)?;
                 self.told.push(Late::Use(LateUse { cells, line }))?;
+                self.uses.insert(line)?;
                 Ok(())
             }
         }
@@ -244,7 +261,7 @@ impl HoldingTask {
     ) -> Result<(), AllocError>
         ensures { OnOk result (LeadsTo (told_wait (touch_of touch) cell line child) self.old self.new) }
     {
-        let known = has_wait(self.told.as_slice(), line);
+        let known = self.waits.contains(&line);
         if known {
             return Ok(());
         }
@@ -257,6 +274,7 @@ impl HoldingTask {
             created: child.line,
             word,
         }))?;
+        self.waits.insert(line)?;
         Ok(())
     }
 

@@ -5,7 +5,6 @@
 mod following;
 mod hindering;
 mod holding;
-mod told;
 mod using;
 mod waits;
 mod walk;

@@ -21,8 +21,11 @@ use std::alloc::{AllocError, Global};
 
 /// Where tasks of a code lack a wait, and what they use behind a release, on the way of the free run, by what the clauses of all tasks
 /// say once what they lack is mended; each may do so many ticks. The walk goes on as if a task had waited where a wait is missing.
-/// Where a fault stops the run, the tasks that are open count as ended there. Each act costs the runs of alike cells that it names.
-/// Want of memory is the one error. Conditions: the code has at most 1,048,576 cells, and so have the globals of the program.
+/// Where a fault stops the run, the tasks that are open count as ended there. Each act costs the runs of alike cells that it names,
+/// and those of them that its task has released or lent, each with a search among the runs that are kept of the task. A wait for all
+/// children costs the runs that were lent, and so does a touch that a child hinders. A line to be told costs a search in the set of
+/// those that were told of the task, and the first time what is told in it. Want of memory is the one error. Conditions: the code has
+/// at most 1,048,576 cells, and so have the globals of the program.
 pub fn find_waits(
     alloc: Global,
     program: &Program,

@@ -1,6 +1,6 @@
 -- What the reply to `missing` says of the program's own run: it tells no line of a task exactly if that run comes to no fault of annotations.
 -- Read against: a main creates a task with `out(x)`, which stores 1 into x, then waits and prints x. Its run ends with the output `1`, and the reply to `missing` is Done with `nothing is missing`. If the task divides by 0 on line 4 behind the store, the run stops there, and the reply is Fault with an
--- empty output and DivideByZero at line 4. With `in(x)` in place of `out(x)` the run stops before NoRight: then the reply tells that the task lacks `inout(x)`, so its output is another one in either case.
+-- empty output and DivideByZero at line 4. With `in(x)` in place of `out(x)` the run stops before NoRight: then the reply tells that the task lacks `out(x)`, so its output is another one in either case.
 use Rattle.std.specs.Prelude.{◌≡◌, ◌↔◌, ◌≤◌, ℕ, List, [], length, codes}
 use Rattle.oss_syntax.specs.declared.fault.FaultKind.{FaultKind}
 use Rattle.oss_syntax.specs.declared.tree.program.Program.{Program}

@@ -1,6 +1,5 @@
-use Rattle.std.proofs.Common.{◌≡◌, ◌∙◌, ap, sym, refl, List, true, false}
-use Rattle.oss_missing_lines.specs.declared.missing.Late.{Late}
-use Rattle.oss_missing_waits.specs.Kept.{lines_have_use}
+use Rattle.std.proofs.Common.{◌≡◌, ◌∙◌, sym, refl, true, false}
+use Rattle.oss_missing_waits.specs.Kept.{has_line}
 use Rattle.oss_missing_waits.proofs.ToldLemmas.{use_known, use_none, use_told}
 use Rattle.oss_missing_waits.proofs.holding.HoldingTask.tell_use.Goals as goal
 
@@ -9,11 +8,12 @@ returns-in-None c = use_none c.args.layout.now c.args.used.now c.args.line c.arg
 
 pub returns-then-known : goal.returns-then-known
 returns-then-known c =
-    let e : lines_have_use c.args.self.now.told c.args.line ≡ true = ap (λ (ls : List Late). lines_have_use ls c.args.line) (sym c.as_slice.ensures) ∙ sym c.has_use-known.ensures ∙ c.if-known.true in
+    let e : has_line c.args.self.now.uses c.args.line ≡ true = sym c.contains-known.ensures ∙ c.if-known.true in
     use_known c.args.layout.now c.args.used.now c.args.line c.args.self.now e
 
-pub returns-in_ok-push-in-Some : goal.returns-in_ok-push-in-Some
-returns-in_ok-push-in-Some c =
-    let e : lines_have_use c.args.self.now.told c.args.line ≡ false = ap (λ (ls : List Late). lines_have_use ls c.args.line) (sym c.as_slice.ensures) ∙ sym c.has_use-known.ensures ∙ c.if-known.false in
-    use_told c.args.layout.now c.args.used.now c.args.line c.in-Some._cell c.in_ok-cells-in-Some.cells c.args.self.now (record c.args.self.now { told = c.push.new.self }) c.in-Some.ensures e c.in_ok-cells-in-Some.ensures refl refl
-    c.in_ok-push-in-Some.ensures.ok
+pub returns-in_ok-insert-in-Some : goal.returns-in_ok-insert-in-Some
+returns-in_ok-insert-in-Some c =
+    let old = c.args.self.now in
+    let e : has_line old.uses c.args.line ≡ false = sym c.contains-known.ensures ∙ c.if-known.false in
+    use_told c.args.layout.now c.args.used.now c.args.line c.in-Some._cell c.in_ok-cells-in-Some.cells old (record old { told = c.push.new.self; uses = c.insert.new.self }) c.in-Some.ensures e c.in_ok-cells-in-Some.ensures refl refl
+    c.in_ok-push-in-Some.ensures.ok refl c.in_ok-insert-in-Some.ensures.updates.0
