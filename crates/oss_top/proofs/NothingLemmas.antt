@@ -130,19 +130,9 @@ one_failed : (text : List ℕ) (f : Option RunFault) → status_of (missed_reply
 one_failed text None is empty = let both : status.Done ≡ status.Fault = is in absurd cc
 one_failed text (Some g) is empty = (g, refl, empty)
 
-module _ (text : List ℕ) (p : Tree) (accepts : Accepts text p) (fuel : ℕ) (reply : Reply) (h : IsMissingReply fuel (program_written p) reply) (o : Outcome) (is : IsOutcomeOf (program_written p).items fuel o) where
-  items : List Item
-  items = (program_written p).items
-
-  m : Missing
-  m = h.missing
-
-  exactly : IsToldNothing m ↔ EndsWell (asks_of items) (main_of items fuel) (first_cells items)
-  exactly = nothing_is_told_exactly text p accepts.is_text h.is_missing.code h.is_missing.lowered fuel m h.is_missing.is
-
-  own : IsToldNothing m → IsFaultOf m.fault o.answer
-  own told = told_faults_are_own text p accepts.is_text h.is_missing.code h.is_missing.lowered fuel m h.is_missing.is told o is
-
+-- Where this is missing of a program, whose run has this outcome.
+module _ (items : List Item) (fuel : ℕ) (m : Missing) (exactly : IsToldNothing m ↔ EndsWell (asks_of items) (main_of items fuel) (first_cells items)) (o : Outcome) (is : IsOutcomeOf items fuel o) (own : IsToldNothing m → IsFaultOf m.fault o.answer)
+    (reply : Reply) (reply_is : reply ≡ missed_reply (missing_text items m) m.fault) where
   told_right : IsToldNothing m → IsRight o.answer
   told_right told =
       let (other, outcome, right) = well_ends (asks_of items) (main_of items fuel) (first_cells items) (exactly.0 told) in
@@ -153,18 +143,18 @@ module _ (text : List ℕ) (p : Tree) (accepts : Accepts text p) (fuel : ℕ) (r
 
   end_forth : reply ≡ done_reply nothing_line → IsEnd o.answer
   end_forth e =
-      let (none, line) = none_failed (missing_text items m) m.fault (sym h.is_reply ∙ e) in
+      let (none, line) = none_failed (missing_text items m) m.fault (sym reply_is ∙ e) in
       told_end o.answer (subst (λ (f : Option RunFault). IsFaultOf f o.answer) none (own ((silent_end items m none).0 line)))
 
   end_back : IsEnd o.answer → reply ≡ done_reply nothing_line
   end_back e =
       let told : IsToldNothing m = right_told (end_right o.answer e) in
       let none : m.fault ≡ None = end_told m.fault o.answer e (own told) in
-      h.is_reply ∙ ap (missed_reply (missing_text items m)) none ∙ ap done_reply ((silent_end items m none).1 told)
+      reply_is ∙ ap (missed_reply (missing_text items m)) none ∙ ap done_reply ((silent_end items m none).1 told)
 
   fault_forth : (reply.status ≡ status.Fault) × (reply.out ≡ []) → IsPlainFault o.answer
   fault_forth (failed, empty) =
-      let (g, some, none) = one_failed (missing_text items m) m.fault (sym (ap status_of h.is_reply) ∙ failed) (sym (ap out_of h.is_reply) ∙ empty) in
+      let (g, some, none) = one_failed (missing_text items m) m.fault (sym (ap status_of reply_is) ∙ failed) (sym (ap out_of reply_is) ∙ empty) in
       let told : IsToldNothing m = (silent_fault items m g some).0 none in
       told_plain o.answer g (subst (λ (f : Option RunFault). IsFaultOf f o.answer) some (own told)) (told_right told)
 
@@ -174,20 +164,24 @@ module _ (text : List ℕ) (p : Tree) (accepts : Accepts text p) (fuel : ℕ) (r
       let by : IsFaultOf m.fault (answers.Fault kind line output) = subst (IsFaultOf m.fault) e (own told) in
       let (g, some) = fault_told m.fault kind line output by in
       let (kinds, places) = subst (λ (f : Option RunFault). IsFaultOf f (answers.Fault kind line output)) some by in
-      h.is_reply ∙ ap (missed_reply (missing_text items m)) some ∙ ap (λ (t : List ℕ). fault_reply t (fault_line g.kind g.line)) ((silent_fault items m g some).1 told)
+      reply_is ∙ ap (missed_reply (missing_text items m)) some ∙ ap (λ (t : List ℕ). fault_reply t (fault_line g.kind g.line)) ((silent_fault items m g some).1 told)
       ∙ (λ i. fault_reply [] (fault_line (kinds i) (places i)))
 
   fault_back : (a : Answer) → o.answer ≡ a → IsPlainFault a → (reply.status ≡ status.Fault) × (reply.out ≡ [])
   fault_back (answers.Done output cells) e right = absurd right
   fault_back (answers.Fault kind line output) e right = let is : reply ≡ fault_reply [] (fault_line kind line) = fault_told_by kind line output e right in (ap status_of is, ap out_of is)
 
-  pub tells_exactly : TellsNothingExactly reply o.answer
+  tells_exactly : TellsNothingExactly reply o.answer
   tells_exactly = record { ended = (end_forth, end_back); failed = (fault_forth, fault_back o.answer refl); told = fault_told_by }
 
 module _ (text : List ℕ) (p : Tree) (accepts : Accepts text p) (file : List ℕ) (fuel : ℕ) (reply : Reply) (o : Outcome) (is : IsOutcomeOf (program_written p).items fuel o) where
+  by_program : IsMissingReply fuel (program_written p) reply → TellsNothingExactly reply o.answer
+  by_program h =
+      tells_exactly (program_written p).items fuel h.missing (nothing_is_told_exactly text p accepts.is_text h.is_missing.code h.is_missing.lowered fuel h.missing h.is_missing.is) o is
+      (λ told. told_faults_are_own text p accepts.is_text h.is_missing.code h.is_missing.lowered fuel h.missing h.is_missing.is told o is) reply h.is_reply
+
   by_text : IsTextReply (missing file fuel) text reply → TellsNothingExactly reply o.answer
-  by_text (accepted q b (missed h)) =
-      tells_exactly text p accepts fuel reply (subst (λ (z : Tree). IsMissingReply fuel (program_written z) reply) ((parsed_once text).one_program q p b.is_text accepts.is_text) h) o is
+  by_text (accepted q b (missed h)) = by_program (subst (λ (z : Tree). IsMissingReply fuel (program_written z) reply) ((parsed_once text).one_program q p b.is_text accepts.is_text) h)
   by_text (refused_text r w e) = absurd (no_refusal text (parsed_once text) p r accepts w)
 
 pub nothing_missing : (text : List ℕ) → IsNothingMissing text
