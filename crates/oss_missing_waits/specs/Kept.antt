@@ -1,6 +1,6 @@
 -- How an open task of the second walk is kept, and what an event makes of it.
 -- Read against: a task at the path 1, 0 has lent x to its child 0 and has released y. Kept are the pieces by which x is lent, the set of y alone, the lines that were told of it, and the sets of those on which a wait or a use was. It releases x: of that it is not told, and x is in the set too.
-use Rattle.std.specs.Prelude.{◌≡◌, ◌≤◌, ℕ, ◌==◌, Bool, false, ◌||◌, ◌&&◌, List, [], ◌∷◌, Option}
+use Rattle.std.specs.Prelude.{◌≡◌, ◌≤◌, ℕ, Bool, false, ◌||◌, ◌&&◌, List, Option}
 use Rattle.std.specs.BTreeSet.{BTreeSet, contains}
 use Rattle.std.specs.Ordering.{nat_cmp}
 use Rattle.oss_syntax.specs.declared.access.Range.{Range}
