@@ -6,7 +6,8 @@
 # and waits; the others are such as users make beside them. tests/mended/mend.py adds what the lines ask for, by rules that its head tells. It does this once.
 # A program is mended if its run has no fault and the output of the right program, and if `missing` says then that nothing is missing. Its verdict in tests/mended/table is
 #   mended                        where the longest chain of its tasks is no longer than that of the right program
-#   mended, with a longer chain   where it is. A pragma takes what each of its tasks lacks, so its tasks wait for more than those of a clause that a person writes
+#   mended, with a longer chain   where it is: the pragma takes what each of its tasks lacks, so each waits for more than by a clause that a person writes, or a sum
+#                                 that is read is no reduction any more
 #   not mended: TEXT              where something is wrong after the one turn; TEXT goes on with what a second turn does
 #   refused: KIND at line N       where it is no program of the language
 #   fault: KIND at line N         where it has a fault that no clause mends. wrong/NAME_MISTAKE.missing are the lines until then, where there are some
