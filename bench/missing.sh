@@ -1,6 +1,6 @@
 #!/bin/sh
 # Counts the instructions of `missing` by the built program, or by PROGRAM where one is handed over: of tasks that lack nothing, of tasks that each lack three clauses which read alike, of tasks that each lack a
-# clause of their own, of tasks nested 15 deep that each lack one, and of main, which waits nowhere. A row tells the instructions for each of 60,000 tasks, and how many times as many 60,000 take as 30,000. A
+# clause of their own, of tasks nested 15 deep that each lack one, and of main, which waits nowhere, over one global and over many. A row tells the instructions for each of 60,000 tasks, and how many times as many 60,000 take as 30,000. A
 # count is the same whatever runs beside. It wants `valgrind`.
 # usage: missing.sh [PROGRAM]
 # shellcheck source=bench/built.sh
@@ -56,6 +56,7 @@ int main() {
   }
 }
 PROGRAM
+  awk -v count="$((times * 1000))" 'BEGIN { for (i = 0; i < count; i++) print "long y" i ";" }' | cat - "unwaited_$times.c" >"behind_$times.c"
 done
 echo 'what | instructions for each of 60,000 tasks | times as many for twice the tasks'
 told 'tasks that lack nothing' whole
@@ -63,3 +64,4 @@ told 'tasks that each lack three clauses, all alike' alike
 told 'tasks that each lack a clause of their own' apart
 told 'tasks nested 15 deep that each lack a clause of their own' nested
 told 'a wait that is missing behind each task' unwaited
+told 'the same, with 2,000 other globals' behind

@@ -4,7 +4,7 @@
 ghost use Rattle.std.specs.Prelude.{◌≡◌, ◌≤◌, ◌<◌, IfOk};
 ghost use Rattle.oss_grammar.specs.Layout.{cells_in};
 
-use oss_pieces::{CellSet, add_cell_name, add_pieces, pieces};
+use oss_pieces::{CellSet, Globals, add_cell_name, add_cell_name_among, add_pieces, pieces};
 use oss_syntax::{GlobalDef, Item, List, Name, NumKind, Program, Range};
 use std::alloc::{AllocError, Global};
 use std::process::Abort;
@@ -121,11 +121,15 @@ fn pieces_past_the_most_are_counted(rt: HostRuntime) -> Result<(), Fail> {
     Ok(())
 }
 
-/// A cell has this name.
+/// A cell has this name, by the program and by the table of its globals.
 fn assert_name(rt: &impl Abort, alloc: Global, cell: u32, wanted: &[u8]) -> Result<(), Fail> {
     let program = layout(alloc)?;
     let mut text = Vec::new(alloc);
     add_cell_name(alloc, &program, cell, &mut text)?;
+    assert!(rt; text.as_slice() == wanted);
+    let globals = Globals::of(alloc, program.items.as_slice())?;
+    let mut text = Vec::new(alloc);
+    add_cell_name_among(alloc, &globals, cell, &mut text)?;
     assert!(rt; text.as_slice() == wanted);
     Ok(())
 }
@@ -138,6 +142,8 @@ fn cells_have_names(rt: HostRuntime) -> Result<(), Fail> {
     assert_name(&rt, alloc, 4, b"a[3]")?;
     assert_name(&rt, alloc, 11, b"m[0][0]")?;
     assert_name(&rt, alloc, 17, b"m[1][2]")?;
+    assert_name(&rt, alloc, 22, b"m[2][3]")?;
     assert_name(&rt, alloc, 23, b"b[0]")?;
+    assert_name(&rt, alloc, 24, b"")?;
     Ok(())
 }

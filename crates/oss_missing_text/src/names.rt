@@ -3,7 +3,7 @@
 ghost use Rattle.std.specs.Prelude.{◌≡◌, ◌≤◌, ◌++◌, length, IfOk, OnOk};
 ghost use Rattle.oss_pieces.specs.Names.{cell_name, joined_pieces, pieces_text};
 
-use oss_pieces::{Globals, Piece, add_cell_name, add_pieces_among};
+use oss_pieces::{Globals, Piece, add_cell_name_among, add_pieces_among};
 use oss_syntax::Program;
 use std::alloc::{AllocError, Global};
 use std::marker::Model;
@@ -11,26 +11,22 @@ use std::marker::Model;
 /// So many pieces are told at most.
 pub(crate) const MOST_PIECES: usize = 8;
 
-/// The globals of a program, and the same in a table, so that a piece does not cost them: contracts see the items of the
+/// The globals of a program in a table, so that a cell or a piece does not cost all of them: contracts see the items of the
 /// program.
 pub(crate) struct Names<'p> {
-    program: &'p Program,
     globals: Globals<'p>,
 }
 
 // By hand, so that who lets one go calls this, and does not take it apart at each exit.
 impl<'p> Drop for Names<'p> {
     fn drop(self) {
-        let Names {
-            program: _,
-            globals,
-        } = self;
+        let Names { globals } = self;
         drop(globals);
     }
 }
 
 impl<'p> Model for Names<'p> {
-    ghost use Rattle.std.specs.Prelude.{◌≡◌, List};
+    ghost use Rattle.std.specs.Prelude.{List};
     ghost use Rattle.std.specs.Coded.{coded_list};
     ghost use Rattle.oss_syntax.specs.declared.tree.program.Item.{Item};
     ghost use Rattle.oss_syntax.specs.contracts.tree.program.Item as item;
@@ -39,9 +35,7 @@ impl<'p> Model for Names<'p> {
 
     ghost coded = { coded_list item.the_row.coded };
 
-    ghost view = { λ n. n.program.now.items };
-
-    ghost invariant = { λ n. n.globals ≡ n.program.now.items };
+    ghost view = { λ n. n.globals };
 }
 
 impl<'p> Names<'p> {
@@ -50,7 +44,7 @@ impl<'p> Names<'p> {
         ensures { IfOk result (λ names. names ≡ program.now.items) }
     {
         let globals = Globals::of(alloc, program.items.as_slice())?;
-        Ok(Names { program, globals })
+        Ok(Names { globals })
     }
 
     /// Adds the name of a cell.
@@ -62,7 +56,7 @@ impl<'p> Names<'p> {
     ) -> Result<(), AllocError>
         ensures { OnOk result (text.new.items ≡ text.old.items ++ cell_name self.now cell) }
     {
-        add_cell_name(alloc, self.program, cell, text)
+        add_cell_name_among(alloc, &self.globals, cell, text)
     }
 
     /// Adds the first pieces, and how many cells the others have.

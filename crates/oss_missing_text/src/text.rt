@@ -14,8 +14,9 @@ use std::alloc::{AllocError, Global};
 /// The text of what is missing of the clauses of this program, a line for each clause that a task lacks or that has to stand in
 /// place of others, for each wait that is missing and for each use behind a release; `nothing is missing` if there is no line
 /// and main has ended. Lines that read alike of tasks of one line are told once, at the first of these tasks, which counts
-/// the others. A clause tells eight pieces of its cells at most, and how many further cells it has. It costs what the lines
-/// of all tasks do, those that read alike too. Out of memory is the one error.
+/// the others. A clause tells eight pieces of its cells at most, and how many further cells it has. It costs what the globals
+/// and the lines of all tasks do, those that read alike too, and for each cell of a wait or of a late use a search among the
+/// globals. Out of memory is the one error.
 pub fn missing_text(
     alloc: Global,
     program: &Program,

@@ -1,3 +1,4 @@
+mod CellLemmas
 mod RunLemmas
 mod StepLemmas
 mod WholeRowLemmas

@@ -1,3 +1,4 @@
+pub mod Begins
 pub mod CellSets
 pub mod Rows
 pub mod Pieces

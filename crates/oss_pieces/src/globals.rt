@@ -1,7 +1,10 @@
-//! The globals of a program by number, in a table, so that a piece is written without a way through all of them.
+//! The globals of a program by number, in a table, so that a cell or a piece is written without a way through all of them.
 
-ghost use Rattle.std.specs.Prelude.{◌≡◌, ◌++◌, IfOk, map, slice_get};
+ghost use Rattle.std.specs.Prelude.{◌≡◌, ◌≤◌, ◌<◌, ◌++◌, ℕ, IfOk, length, map, slice_get, slice_index};
+ghost use Rattle.std.specs.List.Sorted.{IsNonDecreasing};
 ghost use Rattle.std.specs.Option.{option_copied};
+ghost use Rattle.oss_pieces.specs.Begins.{begins_from, name_at};
+ghost use Rattle.oss_pieces.specs.Names.{cell_name};
 ghost use Rattle.oss_pieces.specs.Numbered.{globals_of};
 
 use oss_syntax::{GlobalDef, Item};
@@ -12,13 +15,27 @@ use std::marker::Model;
 pub struct Globals<'p> {
     items: &'p [Item],
     list: Vec<&'p GlobalDef>,
+    /// The number of the first cell of each; the highest number where it is above that.
+    begins: Vec<u64>,
+}
+
+/// A place in a global, counted from 0. The global need not have so many cells.
+#[derive(Clone, Copy)]
+pub(crate) struct Spot<'p> {
+    pub(crate) global: &'p GlobalDef,
+    pub(crate) place: u64,
 }
 
 // By hand, so that who lets one go calls this, and does not take it apart at each exit.
 impl<'p> Drop for Globals<'p> {
     fn drop(self) {
-        let Globals { items: _, list } = self;
+        let Globals {
+            items: _,
+            list,
+            begins,
+        } = self;
         drop(list);
+        drop(begins);
     }
 }
 
@@ -27,6 +44,7 @@ impl<'p> Model for Globals<'p> {
     ghost use Rattle.std.specs.Coded.{coded_list};
     ghost use Rattle.oss_syntax.specs.declared.tree.program.Item.{Item};
     ghost use Rattle.oss_syntax.specs.contracts.tree.program.Item as item;
+    ghost use Rattle.oss_pieces.specs.Begins.{begins_from};
     ghost use Rattle.oss_pieces.specs.Numbered.{globals_of};
 
     ghost Value = { List Item };
@@ -35,7 +53,7 @@ impl<'p> Model for Globals<'p> {
 
     ghost view = { λ g. g.items.now };
 
-    ghost invariant = { λ g. map (λ d. d.now) g.list.items ≡ globals_of g.items.now };
+    ghost invariant = { λ g. (map (λ d. d.now) g.list.items ≡ globals_of g.items.now) × (g.begins.items ≡ begins_from 0 (globals_of g.items.now)) };
 }
 
 impl<'p> Globals<'p> {
@@ -44,7 +62,12 @@ impl<'p> Globals<'p> {
         ensures { IfOk result (λ globals. globals ≡ items.now) }
     {
         let list = globals_among(alloc, items)?;
-        Ok(Globals { items, list })
+        let begins = begins_of(alloc, list.as_slice())?;
+        Ok(Globals {
+            items,
+            list,
+            begins,
+        })
     }
 
     /// The global with this number, counted from 0.
@@ -53,6 +76,43 @@ impl<'p> Globals<'p> {
     {
         self.list.get(number).copied()
     }
+
+    /// The last global that begins at this cell or before it, with the place of the cell behind its first one.
+    pub(crate) fn spot_of(&self, cell: u32) -> Option<Spot<'p>>
+        ensures { name_at result ≡ cell_name self.now cell }
+    {
+        let cell = u64::from(cell);
+        let number = begun(self.begins.as_slice(), cell).checked_sub(1)?;
+        let begin = self.begins[number];
+        let global = self.list[number];
+        Some(Spot {
+            global,
+            place: cell - begin,
+        })
+    }
+}
+
+/// How many of these numbers, which do not fall, are at most this one.
+fn begun(begins: &[u64], cell: u64) -> usize
+    requires { IsNonDecreasing begins.now }
+    ensures there { result ≤ length begins.now }
+    ensures before { (j : ℕ) → j < result → slice_index begins.now j ≤ cell }
+    ensures behind { (j : ℕ) → result ≤ j → j < length begins.now → cell < slice_index begins.now j }
+{
+    begins.partition_point(|begin| *begin <= cell)
+}
+
+/// Where each of these globals begins.
+fn begins_of(alloc: Global, list: &[&GlobalDef]) -> Result<Vec<u64>, AllocError>
+    ensures { IfOk result (λ begins. begins.items ≡ begins_from 0 (map (λ d. d.now) list.now)) }
+{
+    let mut begins = Vec::new(alloc);
+    let mut begin: u64 = 0;
+    for global in list {
+        begins.push(begin)?;
+        begin = begin.saturating_add(global.cells.unwrap_or(1));
+    }
+    Ok(begins)
 }
 
 /// The globals among these items, in text order.

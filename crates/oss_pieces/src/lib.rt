@@ -16,5 +16,5 @@ pub use finding::pieces;
 pub use globals::Globals;
 pub use laws::a_set_has_one_list;
 pub use layout::Layout;
-pub use names::{add_cell_name, add_pieces, add_pieces_among};
+pub use names::{add_cell_name, add_cell_name_among, add_pieces, add_pieces_among};
 pub use piece::{Piece, Span};

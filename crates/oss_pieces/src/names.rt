@@ -1,15 +1,17 @@
 //! How cells and pieces are written.
 
 ghost use Rattle.std.specs.Prelude.{◌≡◌, ◌≤◌, ◌<◌, ◌+◌, ◌++◌, OnOk};
+ghost use Rattle.oss_pieces.specs.Begins.{name_in};
 ghost use Rattle.oss_pieces.specs.Names.{all_in, cell_name, cells_in_pieces, further_pieces, index_text, is_whole, joined_pieces, left_out, more_cells, piece_of_global, piece_text, pieces_text, place_text, size_in, span_text};
 ghost use Rattle.oss_pieces.specs.Rows.{width_of};
 
-use crate::globals::Globals;
+use crate::globals::{Globals, Spot};
 use crate::piece::{Piece, Span};
 use oss_syntax::{GlobalDef, Item, Program};
 use std::alloc::{AllocError, Global};
 
-/// Adds the name of a cell to a text, as `x`, `a[3]` or `m[1][2]`. Out of memory is the one error.
+/// Adds the name of a cell to a text, as `x`, `a[3]` or `m[1][2]`. It costs what the globals before the cell do. Out of memory
+/// is the one error.
 pub fn add_cell_name(
     alloc: Global,
     program: &Program,
@@ -27,6 +29,32 @@ pub fn add_cell_name(
             }
             place -= cells;
         }
+    }
+    Ok(())
+}
+
+/// The same where the globals stand in a table: it costs a search in the table, and not the globals. Out of memory is the
+/// one error.
+pub fn add_cell_name_among(
+    alloc: Global,
+    globals: &Globals<'_>,
+    cell: u32,
+    text: &mut Vec<u8>,
+) -> Result<(), AllocError>
+    ensures { OnOk result (text.new.items ≡ text.old.items ++ cell_name globals.now cell) }
+{
+    match globals.spot_of(cell) {
+        Some(spot) => add_spot(alloc, spot, text),
+        None => Ok(()),
+    }
+}
+
+/// Adds the name of the cell at a place of a global, if the global has so many.
+fn add_spot(alloc: Global, spot: Spot<'_>, text: &mut Vec<u8>) -> Result<(), AllocError>
+    ensures { OnOk result (text.new.items ≡ text.old.items ++ name_in spot.entry.global.now spot.entry.place) }
+{
+    if spot.place < spot.global.cells.unwrap_or(1) {
+        return add_name_in(alloc, spot.global, spot.place, text);
     }
     Ok(())
 }
