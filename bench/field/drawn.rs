@@ -385,9 +385,34 @@ impl Run<'_> {
             !done || complete,
             "the task {number} is done, and is not complete in the core"
         );
+        self.compare_infos(at);
         for place in 0..self.beside.tasks[at].places.len() {
             self.compare_cell(at, place);
         }
+    }
+
+    /// The infos of a task's entries tell without a seat whose they are, and below which entries of its creator they hang.
+    fn compare_infos(&self, at: usize) {
+        let task = &self.beside.tasks[at];
+        let creator = &self.beside.tasks[task.parent.unwrap_or(0)];
+        self.compare_info(task.number, task.number, creator.number);
+        for place in &task.places {
+            let above = creator.places.iter().find(|one| one.cell == place.cell);
+            let parent = above.map_or(0, |above| above.entry);
+            self.compare_info(task.number, place.entry, parent);
+        }
+    }
+
+    fn compare_info(&self, task: u32, entry: u32, parent: u32) {
+        let Some(info) = self.workers[0].field.peek_info(entry) else {
+            panic!("the entry {entry} is not there");
+        };
+        assert!(
+            info.task == task && info.parent == parent,
+            "the info of the entry {entry} tells of the task {} below {}",
+            info.task,
+            info.parent
+        );
     }
 
     fn compare_cell(&mut self, at: usize, place: usize) {

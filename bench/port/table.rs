@@ -134,6 +134,13 @@ impl<S, V, K, P> Shared<S, V, K, P> {
         step();
     }
 
+    /// A load with no seat.
+    #[inline(always)]
+    pub fn peek(&self, word: usize) -> u64 {
+        step();
+        self.words[word].load(SeqCst)
+    }
+
     #[inline(always)]
     pub fn load<M>(&self, _: &mut Seat<S, V>, word: usize) -> u64 {
         step();

@@ -31,6 +31,7 @@ use crate::held::room;
 use crate::key::FieldKey;
 use crate::leaving::leave_value;
 use crate::making::{fill_count, open_task, put_new};
+use crate::places::info_place;
 use crate::seat::FieldSeat;
 use crate::seats::{merge, part};
 use crate::slots::{put_slot, take_job};
@@ -39,7 +40,7 @@ use crate::touched::Touched;
 use oss_body::main_is_set;
 use oss_code::Code;
 use oss_jobs::Job;
-use oss_words::{After, EntryInfo};
+use oss_words::{After, EntryInfo, info_of};
 use std::alloc::{AllocError, Global};
 use std::marker::Model;
 use std::snapshot::Snapshot;
@@ -212,6 +213,26 @@ impl Field {
         ensures found { seat.new.known ≡ after_flags (length self.now.code.first) entry result seat.old.known }
     {
         read_flags(&self.table.shared, &mut seat.place, self.cells, entry)
+    }
+
+    /// What the info word of an entry tells, as it stands at this step; `None` exactly if the field has no such entry. It
+    /// is one load, by no seat. It is for those who wake a task that waits: `task` is the number of the entry's task, and
+    /// so the entry is its task's own exactly if its number is that. `parent` is the creator's own entry for such a one,
+    /// and else the creator's entry on the cell, whose info names the creator; it is 0 for main.
+    ///
+    /// What was found is bound to nothing: no seat knows it, and no clause says that the entry hangs, or has a role. The
+    /// word is written once, before the entry is linked, and is 0 till then, which reads as a weak read of main itself. So
+    /// whoever was told of the entry by a link or a delivery finds what it is; but no clause promises that, nor that
+    /// `task` and `parent` are entries of the field: that is to be tested.
+    pub fn peek_info(&self, entry: u32) -> Option<EntryInfo>
+        ensures none { IfNone result (self.now.entries ≤ entry) }
+        ensures some { IfSome result (λ i. (entry < self.now.entries) × FitsInfo i) }
+    {
+        if self.entries <= entry {
+            return None;
+        }
+        let word = self.table.shared.peek(info_place(self.cells, entry));
+        Some(info_of(word))
     }
 
     /// Begins to make a task: fills its count. The creation stands next in a job that the seat holds. Since the seat's last

@@ -52,7 +52,8 @@ impl FieldSeat {
     }
 
     /// The entry that the seat's last delivery touched, with its state word after it and its info word. A fold delivers
-    /// the join of its entry. Before the first delivery all three are 0.
+    /// the join of its entry. Before the first delivery all three are 0. Who waits for the entry `Touched::entry_info`
+    /// and `Field::peek_info` tell.
     pub fn touched(&self) -> Touched
         ensures { result ≡ self.now.known.last }
     {

@@ -1,5 +1,10 @@
 //! What the last delivery of a seat touched.
 
+ghost use Rattle.std.specs.Prelude.{◌≡◌};
+ghost use Rattle.oss_words.specs.Bits.{info_at};
+
+use oss_words::{EntryInfo, info_of};
+
 /// What the last delivery of a seat touched.
 #[derive(Clone, Copy, Drop)]
 pub struct Touched {
@@ -9,4 +14,13 @@ pub struct Touched {
     pub state: u64,
     /// The entry's info word.
     pub info: u64,
+}
+
+impl Touched {
+    /// What the info word tells, as `Field::peek_info` tells it of any entry.
+    pub fn entry_info(&self) -> EntryInfo
+        ensures { result ≡ info_at self.now.info }
+    {
+        info_of(self.info)
+    }
 }

@@ -60,7 +60,8 @@ fn a_load_finds_what_was_stored(rt: HostRuntime) {
     drop(code);
 }
 
-/// Entries are drawn one after the other, and whoever finds too few gets none. A word that nobody has used has no flag.
+/// Entries are drawn one after the other, and whoever finds too few gets none. A word that nobody has used has no flag,
+/// and its info names main. Beyond the last entry there is none.
 #[test]
 fn entries_are_drawn_in_turn(rt: HostRuntime) {
     let code = code(&rt);
@@ -79,6 +80,13 @@ fn entries_are_drawn_in_turn(rt: HostRuntime) {
     }
     let flags = field.flags(&mut seat, 2);
     assert!(rt; flags == 0);
+    match field.peek_info(2) {
+        Some(info) => {
+            assert!(rt; info.task == 0 && info.parent == 0);
+        }
+        None => panic!(rt; "the field has this entry"),
+    }
+    assert!(rt; field.peek_info(4).is_none());
     drop(seat);
     drop(field);
     drop(code);
