@@ -5,7 +5,7 @@
 #                           where the toolchain keeps nothing and so takes no names there; that one proves the crates below first, but for libraries that `rt` has built in this folder
 #   tests/wrong.sh          the same of all crates
 #   tests/wrong.sh --functions NAME..
-#                           tries those of these crates that change code by a check of the functions of the changed files alone (`rt check --only`), which takes a part
+#                           tries those of these crates that change functions by a check of these functions and of what they call alone (`rt check --only`), which takes a part
 #                           of the time: such a function is proved as it stands, and not with the change. The others, and what is not refused so, are named, and are tried without the word
 #   tests/wrong.sh --fit    proves nothing: whether each wrong body of wrong/ and of must-fail/ fits: each text that it changes stands once in its file
 # A toolchain that keeps what it has proved tries once what has not changed. The last line counts; the status is 0 only where each was refused, or fits.
@@ -114,19 +114,37 @@ changed() {
   ' "$1"
 }
 
-# modules EDIT: the modules of the files that a wrong body changes, each behind --only; nothing where it changes more than code
-modules() {
-  awk '
-    /^file: src\// {
-      name = substr($0, 11)
-      sub(/\.rt$/, "", name)
-      gsub(/\//, "::", name)
-      if (!(name in seen)) told = told " --only " name
-      seen[name] = 1
+# functions EDIT CRATE: the names of the functions that a wrong body changes, each behind --only; nothing where it changes more than code within functions
+functions() {
+  awk -v edit="$1" -v crate="$2" '
+    function content(file,   text, line) {
+      while ((getline line < file) > 0) text = text line "\n"
+      close(file)
+      return text
+    }
+    # the name of the function in which a text ends
+    function last_name(text,   lines, count, name) {
+      count = split(text, lines, "\n")
+      for (; count > 0; count--)
+        if (lines[count] ~ /^ *(pub(\([a-z]+\))? )?(const )?fn [a-z_0-9]+[(<]/) {
+          name = lines[count]
+          sub(/^.*fn /, "", name)
+          sub(/[(<].*$/, "", name)
+          return name
+        }
+    }
+    /^file: / {
+      if ($2 !~ /^src\//) other = 1
+      text = content(crate "/" $2)
       next
     }
-    /^file: / { other = 1 }
-    END { if (!other && !("lib" in seen)) print told }
+    /^old: / {
+      name = last_name(substr(text, 1, index(text, substr($0, 6))) )
+      if (name == "") other = 1
+      if (!(name in seen)) told = told " --only " name
+      seen[name] = 1
+    }
+    END { if (!other) print told }
   ' "$1"
 }
 
@@ -145,28 +163,22 @@ try_functions() {
   left=0
   for name; do
     folder=$work/copy/crates/$name
-    proved=
+    whole=$(for edit in "wrong/$name"/*.edit; do functions "$edit" "crates/$name"; done | tr ' ' '\n' | sort -u | sed -n 's/^[a-z].*/--only &/p')
+    # shellcheck disable=SC2086
+    [ -z "$whole" ] || proves "$folder" $whole || whole=unproved
     for edit in "wrong/$name"/*.edit; do
       label=$name/$(basename -- "$edit")
-      only=$(modules "$edit")
+      only=$(functions "$edit" "crates/$name")
       if [ -z "$only" ]; then
         left=$((left + 1))
         echo "$label: left, since it changes more than functions"
         continue
       fi
-      case $proved in
-        *"[$only]"*) ;;
-        *)
-          # shellcheck disable=SC2086
-          if proves "$folder" $only; then
-            proved="${proved}[$only]"
-          else
-            left=$((left + 1))
-            echo "$label: left, since these functions were not proved as they stand:$only"
-            continue
-          fi
-          ;;
-      esac
+      if [ "$whole" = unproved ]; then
+        left=$((left + 1))
+        echo "$label: left, since the functions were not proved as they stand"
+        continue
+      fi
       changed "$edit" "crates/$name" "$folder" || exit 1
       # shellcheck disable=SC2086
       proves "$folder" $only
@@ -175,7 +187,7 @@ try_functions() {
           refused=$((refused + 1))
           echo "$label: refused: $(grep -m 1 -E '^(note: )?src/[^ ]*:[0-9]+:[0-9]+:' "$work/said" | cut -c 1-160)"
           ;;
-        0) left=$((left + 1)) && echo "$label: left, since these functions are proved with it:$only" ;;
+        0) left=$((left + 1)) && echo "$label: left, since the function is proved with it:$only" ;;
         *) left=$((left + 1)) && echo "$label: left, since the check says nothing: $(grep -m 1 error "$work/said" | cut -c 1-160)" ;;
       esac
       cp -R "crates/$name/src" "$folder/" || exit 1
@@ -185,9 +197,9 @@ try_functions() {
   [ "$left" = 0 ]
 }
 
-functions=no
+by=crates
 [ "${1:-}" != --functions ] || {
-  functions=yes
+  by=functions
   shift
 }
 if [ $# = 0 ]; then
@@ -211,7 +223,7 @@ trap 'rm -rf "$work"' EXIT
 # (an early end of rt is not to leave the copy)
 trap 'exit 130' INT
 trap 'exit 143' TERM
-if [ $functions = yes ]; then
+if [ $by = functions ]; then
   mkdir "$work/copy" && copy_to "$work/copy" || exit 1
   try_functions "$@"
   exit
