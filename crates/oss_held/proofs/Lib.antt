@@ -1,0 +1,4 @@
+mod NumberLemmas
+mod PointLemmas
+mod NeedLemmas
+mod HeldLemmas

@@ -1,0 +1,3 @@
+pub mod Needs
+pub mod Points
+pub mod States
