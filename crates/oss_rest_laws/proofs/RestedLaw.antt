@@ -181,6 +181,7 @@ module _ {S J : Type 0} (P : Program S) (main : Start S) (first : List ℕ) (is_
     setting = f.setting;
     reached = f.reached;
     cells = f.cells;
+    main_path = ap path_by f.roles.main;
     main_in = main_in;
     stands = stands;
     child = child;

@@ -48,6 +48,7 @@ pub record Rested {S J : Type 0} (P : Program S) (main : Start S) (first : List 
   pub reached : Reached P main first s
   pub cells : s.cells ≡ k.cells
   -- main's job is in slot 0, and that of each other task in the slot of its number
+  pub main_path : path 0 ≡ []
   pub main_in : StandsIn is_job k s 0 []
   pub stands : (t : ℕ) → IsNumber n k t → StandsIn is_job k s t (path t)
   -- numbers and tasks but main go together
