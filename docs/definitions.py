@@ -19,8 +19,9 @@ DESCRIPTIONS = TOP / "docs" / "definitions.txt"
 
 # docs/lint.sh allows a cell no more words
 MOST_WORDS = 40
-# of a page with more users the crates alone are named
+# of a page with more users the crates alone are named, and of more crates the first ones
 MOST_USERS = 12
+MOST_CRATES = 36
 
 BEGINNING = """\
 # Definitions
@@ -32,7 +33,7 @@ The definitions of a crate stand in pages, the files of its `specs/`. Crates com
 
 A page is used where it is named by its full name: by pages of its crate, by the contracts of its crate (*its code*), and by other crates.
 A crate is named where its contracts or its definitions name the page; where proofs alone do, the row says so. Of a page with more than
-{most_users} users the crates alone are named.
+{most_users} users the crates alone are named, and of more than {most_crates} crates the first ones.
 
 Crates without definitions: {without}."""
 
@@ -132,7 +133,9 @@ def tell_users(crate, page, users, crates, pages):
     others = [f"`{other}`" for other in crates if other != crate and any(user == other and place != "proofs" for user, place in users)]
     named = own_pages + own_code + others
     if len(named) > MOST_USERS:
-        return ", ".join([f"`{crate}`"] * bool(own_pages or own_code) + others)
+        told = [f"`{crate}`"] * bool(own_pages or own_code) + others
+        more = len(told) - MOST_CRATES
+        return ", ".join(told[:MOST_CRATES]) + (f" and {more} more" if more > 0 else "")
     if named:
         return ", ".join(named)
     proving = [f"`{other}`" for other in crates if (other, "proofs") in users]
@@ -152,7 +155,7 @@ def make_document():
     faults += [f"docs/definitions.txt: {crate} has no page {page}" for crate, page in descriptions if page not in pages.get(crate, [])]
 
     without = ", ".join(f"`{crate}`" for crate in crates if not pages[crate])
-    lines = [BEGINNING.format(most_users=MOST_USERS, without=without)]
+    lines = [BEGINNING.format(most_users=MOST_USERS, most_crates=MOST_CRATES, without=without)]
     for crate in crates:
         if not pages[crate]:
             continue
