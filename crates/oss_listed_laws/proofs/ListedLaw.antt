@@ -1,5 +1,5 @@
 -- Listed bodies stand for the state: entries for them are made one after the other.
-use Rattle.std.proofs.Common.{◌≡◌, ◌⊎◌, inl, inr, sym, subst, refl, ◌∙◌, ap, ℕ, zero, suc, ◌<◌, ◌≤◌, ◌+◌, arith, Bool, true, List, [], ◌∷◌, ◌++◌, length, Option, Some}
+use Rattle.std.proofs.Common.{◌≡◌, ◌⊎◌, inl, inr, sym, subst, refl, ◌∙◌, ap, ℕ, zero, suc, ◌<◌, arith, Bool, true, List, [], ◌∷◌, ◌++◌, length, Some}
 use Rattle.std.specs.Prelude.{slice_get}
 use Rattle.std.proofs.lemmas.Option.{slice_get_within}
 use Rattle.oss_code.specs.declared.code.CodeParts.{CodeParts}
@@ -7,7 +7,7 @@ use Rattle.oss_core.specs.Below.{MayOpen}
 use Rattle.oss_core.specs.Kept.{own}
 use Rattle.oss_core.specs.Moving.{AreSound}
 use Rattle.oss_core.specs.Standing.{AreRightsOf, IsLinked, IsNumbered, StandsFor}
-use Rattle.oss_core.proofs.EntryLemmas.{in_added, in_front, in_last, named_at, opens_added, precedes_in, precedes_in_last, rising_once}
+use Rattle.oss_core.proofs.EntryLemmas.{in_added, in_front, in_last, named_at, opens_added, rising_once}
 use Rattle.oss_core.proofs.KeepLemmas.{some_is, which}
 use Rattle.oss_core.proofs.MatchLemmas.{named_has}
 use Rattle.oss_core.proofs.NeedLemmas.{are_rights, opens_rising}
