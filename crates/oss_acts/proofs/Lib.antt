@@ -1,0 +1,4 @@
+pub mod NewsLemmas
+pub mod TakeLemmas
+pub mod TouchLemmas
+pub mod WorkLemmas

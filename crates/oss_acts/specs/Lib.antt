@@ -1,0 +1,3 @@
+pub mod News
+pub mod Touching
+pub mod Working
