@@ -114,35 +114,60 @@ changed() {
   ' "$1"
 }
 
-# functions EDIT CRATE: the names of the functions that a wrong body changes, each behind --only; nothing where it changes more than code within functions
+# twice CRATE: the names that several functions of a crate have
+twice() {
+  grep -rhoE 'fn [a-z_0-9]+[(<]' "$1/src" | sed 's/^fn //; s/.$//' | sort | uniq -d
+}
+
+# functions EDIT CRATE NAMES: the functions that a wrong body changes, each behind --only: with its path where the name is one of NAMES. Nothing where it changes more
+# than code within functions
 functions() {
-  awk -v edit="$1" -v crate="$2" '
+  awk -v edit="$1" -v crate="$2" -v twice=" $(echo $3) " '
     function content(file,   text, line) {
       while ((getline line < file) > 0) text = text line "\n"
       close(file)
       return text
     }
-    # the name of the function in which a text ends
-    function last_name(text,   lines, count, name) {
+    # the path of the function in which a text ends
+    function last_path(text, module,   lines, count, name, kind, trait) {
       count = split(text, lines, "\n")
       for (; count > 0; count--)
-        if (lines[count] ~ /^ *(pub(\([a-z]+\))? )?(const )?fn [a-z_0-9]+[(<]/) {
-          name = lines[count]
-          sub(/^.*fn /, "", name)
-          sub(/[(<].*$/, "", name)
-          return name
+        if (lines[count] ~ /^ *(pub(\([a-z]+\))? )?(const )?fn [a-z_0-9]+[(<]/) break
+      if (!count) return ""
+      name = lines[count]
+      sub(/^.*fn /, "", name)
+      sub(/[(<].*$/, "", name)
+      if (!index(twice, " " name " ")) return name
+      if (lines[count] ~ /^ /) {
+        for (; count > 0; count--)
+          if (lines[count] ~ /^impl/) break
+        kind = lines[count]
+        sub(/^impl(<[^ ]*>)? /, "", kind)
+        if (kind ~ / for /) {
+          trait = kind
+          sub(/[< ].*$/, "", trait)
+          sub(/^.* for /, "", kind)
         }
+        sub(/[< ].*$/, "", kind)
+        name = kind (trait == "Drop" ? "" : trait) "::" name
+      }
+      return module "::" name
     }
     /^file: / {
       if ($2 !~ /^src\//) other = 1
       text = content(crate "/" $2)
+      module = crate "/" $2
+      sub(/^crates\//, "", module)
+      sub(/\/src/, "", module)
+      sub(/(\/lib)?\.rt$/, "", module)
+      gsub(/\//, "::", module)
       next
     }
     /^old: / {
-      name = last_name(substr(text, 1, index(text, substr($0, 6))) )
-      if (name == "") other = 1
-      if (!(name in seen)) told = told " --only " name
-      seen[name] = 1
+      path = last_path(substr(text, 1, index(text, substr($0, 6))), module)
+      if (path == "") other = 1
+      if (!(path in seen)) told = told " --only " path
+      seen[path] = 1
     }
     END { if (!other) print told }
   ' "$1"
@@ -163,12 +188,13 @@ try_functions() {
   left=0
   for name; do
     folder=$work/copy/crates/$name
-    whole=$(for edit in "wrong/$name"/*.edit; do functions "$edit" "crates/$name"; done | tr ' ' '\n' | sort -u | sed -n 's/^[a-z].*/--only &/p')
+    several=$(twice "crates/$name")
+    whole=$(for edit in "wrong/$name"/*.edit; do functions "$edit" "crates/$name" "$several"; done | tr ' ' '\n' | sort -u | sed -n 's/^[a-z].*/--only &/p')
     # shellcheck disable=SC2086
     [ -z "$whole" ] || proves "$folder" $whole || whole=unproved
     for edit in "wrong/$name"/*.edit; do
       label=$name/$(basename -- "$edit")
-      only=$(functions "$edit" "crates/$name")
+      only=$(functions "$edit" "crates/$name" "$several")
       if [ -z "$only" ]; then
         left=$((left + 1))
         echo "$label: left, since it changes more than functions"
