@@ -1,5 +1,6 @@
 //! A field beside the core, deed by deed: which seat acts, and what it does, is drawn; behind each deed all is compared.
 
+use crate::beside::{Beside, Counts};
 use crate::oss_code::Code;
 use crate::oss_field::Field;
 use crate::oss_jobs::Job;
@@ -8,7 +9,6 @@ use crate::prelude::{Box, Global};
 use crate::programs::Dice;
 use crate::work::{Did, Watch, Worker};
 use std::vec::Vec;
-use crate::beside::{Beside, Counts};
 
 /// The jobs that a seat holds, the last taken last.
 type Hand = Vec<Box<Job>>;

@@ -1,8 +1,8 @@
 // strip.py writes the names of the modules before this text.
 mod beside;
-mod count;
 mod crew;
 mod drawn;
+mod pool;
 mod programs;
 mod work;
 
@@ -164,6 +164,35 @@ fn threads_all(from: u64, count: u64, how: Threads) {
     }
 }
 
+/// Random programs by threads that share a queue, from this start on, each so often.
+fn pools_all(from: u64, count: u64, threads: usize, times: u64) {
+    let (mut ran, mut tasks) = (0, 0);
+    for start in from..from + count {
+        let (text, code) = program_of(start);
+        let Some(wanted) = printed(&code) else {
+            continue;
+        };
+        for _ in 0..times {
+            let (field, seat) = field_of(&code, 1_024);
+            let ended = std::panic::catch_unwind(std::panic::AssertUnwindSafe(|| {
+                pool::run(&code, &field, seat, 1_024, threads)
+            }));
+            match ended {
+                Ok(made) if made.printed == wanted => tasks += made.tasks + 1,
+                Ok(_) => tell(
+                    start,
+                    "it prints something else than the sequential run",
+                    &text,
+                    &[],
+                ),
+                Err(why) => tell(start, &said(why), &text, &[]),
+            }
+            ran += 1;
+        }
+    }
+    println!("{threads} threads with a queue: {ran} runs from {from} on; {tasks} tasks, main among them; each run ended with all of them, and printed what the sequential run prints");
+}
+
 /// One run of a program.
 fn run_once(code: &Code, entries: u32, start: u64, time: u64, how: Threads) -> crew::Ran {
     let (field, seat) = field_of(code, entries);
@@ -210,19 +239,28 @@ fn file_by_threads(file: &str, entries: u32, how: Threads) {
     println!("{file}: {} runs by {} threads, {tasks} tasks, {steps} atomic steps; each printed what the sequential run prints", how.times, how.threads);
 }
 
-/// Runs the program of a file by one seat, in a field with so many entries.
-fn count(file: &str, entries: u32) {
-    let Ok(text) = std::fs::read_to_string(file) else {
-        panic!("the file cannot be read");
-    };
-    let Some(code) = code_of(&text) else {
-        panic!("this is no program");
-    };
-    let before = table::steps();
+/// Runs the program of a file by so many threads that share a queue, in a field with so many entries, and tells what it took.
+fn count(file: &str, entries: u32, threads: usize) {
+    let text = std::fs::read_to_string(file).expect("the file cannot be read");
+    let code = code_of(&text).expect("a program");
     let (field, seat) = field_of(&code, entries);
-    let (printed, made) = count::run(&code, &field, seat);
-    print!("{}", String::from_utf8_lossy(&printed));
-    eprintln!("tasks {made}, atomic steps {}", table::steps() - before);
+    let (began, before) = (std::time::Instant::now(), processor_seconds());
+    let ran = pool::run(&code, &field, seat, entries, threads);
+    let (seconds, processor) = (began.elapsed().as_secs_f64(), processor_seconds() - before);
+    print!("{}", String::from_utf8_lossy(&ran.printed));
+    let (tasks, steps) = (ran.tasks, ran.steps);
+    eprintln!("tasks {tasks} steps {steps} seconds {seconds:.3} processor {processor:.2}");
+}
+
+/// What this program and what it asks of the system have taken so far, of all processors, to a hundredth.
+fn processor_seconds() -> f64 {
+    let told = std::fs::read_to_string("/proc/self/stat").unwrap_or_default();
+    let fields = told.rsplit(')').next().unwrap_or_default().split(' ');
+    let ticks = fields
+        .skip(12)
+        .take(2)
+        .map(|ticks| ticks.parse().unwrap_or(0));
+    ticks.sum::<u64>() as f64 / 100.0
 }
 
 fn main() {
@@ -239,6 +277,7 @@ fn main() {
             };
             threads_all(number(1), number(2), how);
         }
+        "pool" => pools_all(number(1), number(2), number(3) as usize, number(4)),
         "file" => {
             let how = Threads {
                 threads: number(3) as usize,
@@ -253,7 +292,7 @@ fn main() {
             let output = printed(&code).expect("a run without fault");
             print!("{}", String::from_utf8_lossy(&output));
         }
-        "count" => count(&words[1], number(2) as u32),
+        "count" => count(&words[1], number(2) as u32, number(3) as usize),
         other => panic!("no mode is named {other}"),
     }
 }

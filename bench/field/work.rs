@@ -3,7 +3,7 @@
 use crate::oss_body::memory::{combined, word};
 use crate::oss_body::Act;
 use crate::oss_code::Code;
-use crate::oss_field::{Field, FieldSeat};
+use crate::oss_field::{Field, FieldSeat, Touched};
 use crate::oss_jobs::Job;
 use crate::oss_syntax::{Access, List, Mode};
 use crate::oss_words::{state_of, After, EntryInfo, EntryState};
@@ -20,6 +20,8 @@ pub trait Watch {
     fn made(&mut self, creator: &Job, task: Made);
     /// The count of this task became 0.
     fn freed(&mut self, task: u32);
+    /// The seat has delivered a message or joined a value, and has touched this.
+    fn delivered(&mut self, _: &Touched) {}
     /// The seat is going to give up this cell of a job's task.
     fn giving(&mut self, job: &Job, cell: u32);
     /// It has.
@@ -153,6 +155,7 @@ impl<'a> Worker<'a> {
                 }
             }
         }
+        watch.delivered(&self.seat.touched());
     }
 
     /// Delivers all that the seat holds, unless it is to wait until that must be.

@@ -1,7 +1,7 @@
 // What stands for the kit's crates `atomic_table` and `arrayvec`, and for what proofs alone see of a value. The same calls over Rust's own atomic words. Nothing here is proved.
 //
-// Each atomic step first calls the hook of its thread, if that has one: a driver picks there which thread makes the next step. A build with `debug_assertions` also counts the steps of a thread,
-// and ends with a word where two threads are at one slot at a time.
+// In a build with `debug_assertions` each atomic step first calls the hook of its thread, if that has one: a driver picks there which thread makes the next step. Such a build also ends with a word
+// where two threads are at one slot at a time. It counts the steps of a thread, and so does one with `--cfg steps`.
 
 use crate::prelude::{AllocError, Global, Vec};
 use std::cell::{Cell, RefCell, UnsafeCell};
@@ -37,22 +37,27 @@ pub fn set_hook(hook: Option<std::boxed::Box<dyn Fn()>>) {
     HOOK.with(|place| *place.borrow_mut() = hook);
 }
 
-/// How many atomic steps the thread has made, in a build with `debug_assertions`.
+/// How many atomic steps the thread has made, in a build that counts them.
 pub fn steps() -> u64 {
     STEPS.with(Cell::get)
 }
 
+/// The hook of the thread is called: a driver may stop here.
+#[inline(always)]
+fn stop() {
+    #[cfg(debug_assertions)]
+    HOOK.with(|place| {
+        if let Some(hook) = place.borrow().as_ref() {
+            hook();
+        }
+    });
+}
+
 #[inline(always)]
 fn step() {
-    #[cfg(debug_assertions)]
-    {
-        STEPS.with(|count| count.set(count.get() + 1));
-        HOOK.with(|place| {
-            if let Some(hook) = place.borrow().as_ref() {
-                hook();
-            }
-        });
-    }
+    #[cfg(any(debug_assertions, steps))]
+    STEPS.with(|count| count.set(count.get() + 1));
+    stop();
 }
 
 // --- tables ---
@@ -199,7 +204,7 @@ impl<S, V, K, P> Shared<S, V, K, P> {
         let slot = &self.slots[slot];
         if cfg!(debug_assertions) {
             assert!(!slot.busy.swap(true, SeqCst), "two threads are at one slot");
-            step();
+            stop();
         }
         // the rule of the table has it that no other thread is at the slot
         let was = unsafe { std::mem::replace(&mut *slot.value.get(), new) };
