@@ -17,5 +17,6 @@ pub mod SettleLemmas
 pub mod SlideLemmas
 pub mod StackLemmas
 pub mod StepLemmas
+pub mod SweepLemmas
 pub mod TurnLemmas
 pub mod TellLemmas

@@ -13,4 +13,5 @@ pub mod Runs
 pub mod Rushes
 pub mod Slides
 pub mod Steps
+pub mod Sweeps
 pub mod Turnings

@@ -15,3 +15,4 @@ pub(crate) mod rows;
 pub(crate) mod rush;
 pub(crate) mod slide;
 pub(crate) mod steps;
+pub(crate) mod sweep;

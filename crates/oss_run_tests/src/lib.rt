@@ -24,4 +24,6 @@ mod rush_tests;
 #[cfg(test)]
 mod single_tests;
 #[cfg(test)]
+mod sweep_tests;
+#[cfg(test)]
 mod waves_tests;
