@@ -2,6 +2,7 @@ pub mod CallLemmas
 pub mod CloseLemmas
 pub mod DeliverLemmas
 pub mod DrawLemmas
+pub mod EndLemmas
 pub mod FamilyLemmas
 pub mod FillLemmas
 pub mod GiveLemmas

@@ -2,7 +2,7 @@
 -- Read against: the seat of `Known` links 2 behind 1. It owns 0, 1 and 2, was told that 1 is of main and of depth 1, and has linked nothing
 -- behind 1. Then it has the link (2, after 1), was told of 2, and holds what adding 131136 to the word 39 completes, which is nothing. When it
 -- gives up 1, it has no child: 24 is added to 131175, and what that completes, by the info of 1 that it was told, is (2, 3), (2, 4) and (2, 5).
-use Rattle.std.specs.Prelude.{◌≡◌, ◌≢◌, ◌⊎◌, ◌<◌, ◌≤◌, ◌+◌, ◌*◌, ℕ, List, [], ◌∷◌, ◌++◌}
+use Rattle.std.specs.Prelude.{◌≡◌, ◌≢◌, ◌⊎◌, ◌<◌, ◌≤◌, ◌+◌, ◌*◌, ℕ, [], ◌∷◌, ◌++◌}
 use Rattle.oss_syntax.specs.declared.access.Mode.TheVariants.{Write}
 use Rattle.oss_words.specs.declared.entry.EntryInfo.{EntryInfo}
 use Rattle.oss_words.specs.declared.entry.After.{After}

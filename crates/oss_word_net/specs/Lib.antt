@@ -1,5 +1,6 @@
 pub mod Asks
 pub mod Calls
+pub mod Ended
 pub mod Known
 pub mod Moves
 pub mod Plays

@@ -6,12 +6,13 @@ ghost use Rattle.oss_words.specs.declared.entry.EntryInfo.{EntryInfo};
 ghost use Rattle.oss_words.specs.Bits.{state_at};
 ghost use Rattle.oss_words.specs.Net.{Place};
 ghost use Rattle.oss_words.specs.Views.{Among};
+ghost use Rattle.oss_word_net.specs.Ended.{Ended};
 ghost use Rattle.oss_word_net.specs.Calls.{MayHang, Hung, MayRelease, Released, Delivered};
 ghost use Rattle.oss_word_net.specs.Known.{Known, OneInfo, Family, Rests, first_known};
 ghost use Rattle.oss_word_net.specs.Moves.{drew, missed, looked, keeping, handed, joined};
 ghost use Rattle.oss_word_net.specs.Standing.{Netted, Standing};
 
-use crate::closing::close_table;
+use crate::closing::{close_table, end_table};
 use crate::delivering::deliver_first;
 use crate::giving::give_up;
 use crate::held::{ROOM, has_some};
@@ -222,5 +223,21 @@ impl WordNet {
         drop(held);
         close_table(table, place, &mut states, entries);
         Ok(states)
+    }
+
+    /// The end of a net whose one seat was never split, and holds nothing: all words, the draw word first, and of each
+    /// entry its state word and then its info word. It is an error where memory is wanted.
+    pub fn end(self, seat: WordSeat) -> Result<Vec<u64>, AllocError>
+        requires net { seat.net ≡ self.table }
+        requires alone { (seat.id ≡ 0) × (seat.known.view.splits ≡ 0) }
+        requires empty { seat.known.view.held ≡ [] }
+        ensures { IfOk result (λ v. Ended self.entries v.items seat.known) }
+    {
+        let mut words = Vec::with_capacity(self.alloc, 1 + 2 * self.entries as usize)?;
+        let WordNet { table, entries, .. } = self;
+        let WordSeat { place, held } = seat;
+        drop(held);
+        end_table(table, place, &mut words, entries);
+        Ok(words)
     }
 }

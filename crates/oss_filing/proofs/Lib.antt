@@ -1,0 +1,9 @@
+pub mod Basics
+pub mod CountLemmas
+pub mod FiledLemmas
+pub mod FollowLemmas
+pub mod OpeningLaw
+pub mod OwnLemmas
+pub mod RolesLaw
+pub mod SoundLaw
+pub mod StateLaw

@@ -1,0 +1,4 @@
+pub mod BookLaw
+pub mod GrowLaw
+pub mod LastLaw
+pub mod TaskLaw
