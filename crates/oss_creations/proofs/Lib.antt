@@ -1,0 +1,6 @@
+pub mod AccessLemmas
+pub mod DrawLemmas
+pub mod KeepLemmas
+pub mod LinkLemmas
+pub mod LoopLemmas
+pub mod MakeLemmas
