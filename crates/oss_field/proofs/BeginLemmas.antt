@@ -330,6 +330,7 @@ module _ (code : CodeParts) (fuel n id : ℕ) (v : SeatView) (e : ℕ) (i : Entr
       gave = stands.gave;
       role = stands.role;
       before = stands.before;
+      fresh = stands.fresh;
       cells = stands.cells;
       size = length-set ws (state_word_of (length code.first) e) 39 ∙ stands.size;
       slots = stands.slots;

@@ -175,6 +175,7 @@ module _ (code : CodeParts) (fuel n : ℕ) (ws : List ℕ) (homes : List (maybe.
     gave = stands.gave;
     role = stands.role;
     before = stands.before;
+    fresh = stands.fresh;
     cells = stands.cells;
     size = length-set ws 0 (slice_index ws 0 + count) ∙ stands.size;
     slots = stands.slots;

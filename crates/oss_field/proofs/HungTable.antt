@@ -152,6 +152,7 @@ module _ (code : CodeParts) (fuel n : ℕ) (ws : List ℕ) (homes : List (maybe.
       gave = stands.gave;
       role = stands.role;
       before = stands.before;
+      fresh = stands.fresh;
       cells = stands.cells;
       size = length-set ws (state_word_of (length code.first) o) (state_word c) ∙ stands.size;
       slots = stands.slots;

@@ -181,6 +181,7 @@ module _ (code : CodeParts) (fuel n id : ℕ) (v : SeatView) (other : ℕ) (x : 
       gave = stands.gave;
       role = stands.role;
       before = stands.before;
+      fresh = stands.fresh;
       cells = stands.cells;
       size = stands.size;
       slots = stands.slots;

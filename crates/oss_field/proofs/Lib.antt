@@ -1,4 +1,5 @@
 pub mod ActLemmas
+pub mod ApartLemmas
 pub mod BeginLemmas
 pub mod CellLemmas
 pub mod CellTable
@@ -46,6 +47,7 @@ pub mod SameLemmas
 pub mod SeatLemmas
 pub mod SendLemmas
 pub mod SlotLemmas
+pub mod SpentLemmas
 pub mod StageLemmas
 pub mod StartLemmas
 pub mod TableLemmas

@@ -12,8 +12,8 @@ use Rattle.oss_roles.specs.Numbers.{cells_below}
 use Rattle.oss_roles.specs.Roles.{Site, itself, on}
 use Rattle.oss_field.specs.Hanging.{StandsToLink}
 use Rattle.oss_field.specs.Known.{Holding, Known, Unlinked, last_of}
-use Rattle.oss_field.specs.LinkMeeting.{BegunMayLink, DeliveriesKeepMaking, FoldsKeepMaking, IsMakingStill, OthersMayLink}
-use Rattle.oss_field.specs.Linking.{IsEntryFor, IsFresh, cell_entry, own_entry}
+use Rattle.oss_field.specs.LinkMeeting.{BegunMayLink, DeliveriesKeepMaking, FoldsKeepMaking, OthersMayLink}
+use Rattle.oss_field.specs.Linking.{IsEntryFor, cell_entry, own_entry}
 use Rattle.oss_field.specs.Making.{new_cells, unlinked_from}
 use Rattle.oss_field.specs.Moves.{with_body}
 use Rattle.oss_field.specs.Plans.{new_rights}

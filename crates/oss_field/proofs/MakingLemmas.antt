@@ -312,6 +312,7 @@ module _ (code : CodeParts) (fuel n id : ℕ) (v : SeatView) (job : Job) (t coun
       gave = stands.gave;
       role = role';
       before = stands.before;
+      fresh = stands.fresh;
       cells = stands.cells;
       size = length-set ws (count_word_of (length code.first) t) count ∙ stands.size;
       slots = stands.slots;

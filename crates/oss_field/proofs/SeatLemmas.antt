@@ -203,6 +203,7 @@ module _ (code : CodeParts) (fuel n : ℕ) (v : SeatView) (more : 1 < v.known.wo
       gave = stands.gave;
       role = stands.role;
       before = stands.before;
+      fresh = stands.fresh;
       cells = stands.cells;
       size = stands.size;
       slots = stands.slots;

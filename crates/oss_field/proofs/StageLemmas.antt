@@ -95,6 +95,9 @@ retold_here before t = elim (eqb_tells t t) [ inl h ↦ ap (λ (b : Bool). cond 
 retold_else : (before : ℕ → List ℕ) (t e : ℕ) → e ≢ t → retold before t e ≡ before e
 retold_else before t e ne = elim (eqb_tells e t) [ inl h ↦ absurd (ne h.1) | inr h ↦ ap (λ (b : Bool). cond b [] (before e)) h.0 ]
 
+retold_fresh : (before : ℕ → List ℕ) (t e : ℕ) → before e ≡ [] → retold before t e ≡ []
+retold_fresh before t e fresh = elim (eqb_tells e t) [ inl h ↦ ap (λ (b : Bool). cond b [] (before e)) h.0 | inr h ↦ ap (λ (b : Bool). cond b [] (before e)) h.0 ∙ fresh ]
+
 module _ (code : CodeParts) (main : Start CodeScript) (first : List ℕ) (before : ℕ → List ℕ) (n : ℕ) (k : Parts (Box Job)) (sights : List (Sight CodeScript)) (f : Field (asks code) main first (is_job_of code before) n k sights)
     (id : ℕ) (v : Sight CodeScript) (at : get_elem? sights id ≡ maybe.some v) (a : Making) (among : Among a v.makes) (two : k.bodies a.task ≡ 2) where
   abbrev made : IsMade (asks code) (is_job_of code before) k f.net f.role f.opened v a
@@ -197,6 +200,7 @@ stands_retold code fuel n ws homes views stands id v sits a among two = (
     gave = stands.gave;
     role = stands.role;
     before = retold stands.before a.task;
+    fresh = λ t. retold_fresh stands.before a.task t (stands.fresh t);
     cells = stands.cells;
     size = stands.size;
     slots = stands.slots;

@@ -196,6 +196,7 @@ module _ (code : CodeParts) (fuel n : ℕ) (low : 0 < n) (high : n ≤ 16777216)
     gave = λ e. false;
     role = λ e. None;
     before = λ t. [];
+    fresh = λ t. refl;
     cells = code.first;
     size =
         (let a : length (cells ++ (first_entry ++ blanks (n - 1))) ≡ length cells + length (first_entry ++ blanks (n - 1)) = length-append cells (first_entry ++ blanks (n - 1)) in

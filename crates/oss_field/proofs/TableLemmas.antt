@@ -5,7 +5,6 @@ use mathlib.Core.Option as maybe
 use lib.ListN.{get_elem?}
 use Rattle.std.proofs.lemmas.List.{set-get_or}
 use Rattle.std.proofs.Math.Seq.{map-set}
-use Rattle.atomic_table.specs.Table.{State, Me, Allows, keeps}
 use Rattle.atomic_table.proofs.Lists.{at_set, at_map, set_again}
 use Rattle.oss_body.specs.Mains.{code_main}
 use Rattle.oss_code.specs.declared.code.CodeParts.{CodeParts}
@@ -30,7 +29,6 @@ use Rattle.oss_field.specs.Heard.{Told}
 use Rattle.oss_field.specs.Known.{Holding, Known, sight_of}
 use Rattle.oss_field.specs.Layout.{words_in, cell_word, state_word_of, info_word_of, value_word_of, number_word_of, body_word_of, parts_of}
 use Rattle.oss_field.specs.Plans.{ArePlanned, Hearing, Planned, Prepared, hearing_of, planned_of, prepared_of}
-use Rattle.oss_field.specs.Steps.{Steps}
 use Rattle.oss_field.specs.Table.{Slot, is_job_of, planned_by, sights_of, Neat, AreSeats, Stands}
 use Rattle.oss_field.proofs.HeardLemmas.{heard_on}
 use Rattle.oss_field.proofs.MarkLemmas.{marked_on, same_keeps, stays_same}
@@ -134,6 +132,7 @@ module _ (code : CodeParts) (fuel n : ℕ) (ws : List ℕ) (homes : List (maybe.
     gave = stands.gave;
     role = stands.role;
     before = stands.before;
+    fresh = stands.fresh;
     cells = cells';
     size = size;
     slots = slots;
@@ -175,8 +174,3 @@ quiet_stands code fuel n ws homes views stands id v l at words same told rule =
 -- a word that was read is as it was
 pub read_stands : (code : CodeParts) (fuel n i : ℕ) (ws : List ℕ) (homes : List (maybe.Option Slot)) (views : List SeatView) → Stands code fuel n ws homes views → Stands code fuel n (set ws i (slice_index ws i)) homes views
 read_stands code fuel n i ws homes views stands = subst (λ (z : List ℕ). Stands code fuel n z homes views) (sym (set-get_or ws i 0)) stands
-
--- what the table asks of a step that takes no slot
-pub allowed : (code : CodeParts) (fuel n slots id i : ℕ) (me : Me Slot SeatView) (f : ℕ → ℕ) (tells : ℕ → Known → Type 0) → Steps code fuel n id me.0 i f tells
-    → Allows (λ (z : State Slot SeatView). Stands code fuel n z.words z.homes z.views) slots id me i f (λ found w. (w.1 ≡ me.1) × tells found w.0.known)
-allowed code fuel n slots id i me f tells h z stands size at small = let r = h z.words z.homes z.views stands at small in (record { known = r.0 }, keeps, tt, r.1, (refl, r.2))

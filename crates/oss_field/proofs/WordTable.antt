@@ -110,6 +110,7 @@ module _ (code : CodeParts) (fuel n : ℕ) (ws : List ℕ) (homes : List (maybe.
     gave = gave';
     role = stands.role;
     before = stands.before;
+    fresh = stands.fresh;
     cells = stands.cells;
     size = size ∙ stands.size;
     slots = stands.slots;

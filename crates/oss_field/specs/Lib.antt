@@ -20,6 +20,7 @@ pub mod Owning
 pub mod Plans
 pub mod Reading
 pub mod Seats
+pub mod Spent
 pub mod Standing
 pub mod Steps
 pub mod Table

@@ -2,7 +2,7 @@
 -- Read against: a field of 2 cells and 2 entries. At the start its words are 1, the two first cells, the six words of main, 0, 0, 0, 0, 0 and 1, and
 -- those of entry 1, 0, 0, 0, 0, 18446744073709551615 and 0. Its first seat bears no job and holds no slot; when it has taken main's job, it bears 0
 -- and holds slot 0, from which the job was taken out.
-use Rattle.std.specs.Prelude.{◌≡◌, ◌-◌, ℕ, zero, suc, List, [], ◌∷◌, ◌++◌, map, length, replicate, Some, None}
+use Rattle.std.specs.Prelude.{◌≡◌, ◌<◌, ◌-◌, ℕ, zero, suc, List, [], ◌∷◌, ◌++◌, map, length, replicate, Some, None}
 use mathlib.Core.Option as maybe
 use Rattle.std.specs.Global.{Box}
 use Rattle.atomic_table.specs.Seated.{TableId}
@@ -32,17 +32,19 @@ pub record Standing : Type 0 where
 abbrev pub carried : List Holding → List (ℕ × Slot)
 carried = map (λ h. (h.number, None))
 
--- The seat is one of the table with this name and key.
+-- The seat is one of the table with this name and key, and has parts of it: so it was joined to no other.
 pub record On (d : TableId) (key : FieldKey) (s : Seat Slot SeatView) : Type 0 where
   pub table : s.table_id ≡ d
   pub words : d.words ≡ words_in (length key.code.value.first) key.entries
   pub slots : d.slots ≡ key.entries
+  pub live : 0 < s.me.0.known.words.parts
 
--- It is the same seat, and holds the same slots.
+-- It is the same seat, which has parts of the table, and holds the same slots.
 pub record Stays (s t : Seat Slot SeatView) : Type 0 where
   pub table : t.table_id ≡ s.table_id
   pub id : t.id ≡ s.id
   pub slots : t.me.1 ≡ s.me.1
+  pub live : 0 < t.me.0.known.words.parts
 
 -- The six words of main's entry at the start, and of each other.
 abbrev pub first_entry : List ℕ

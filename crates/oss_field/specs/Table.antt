@@ -4,7 +4,7 @@
 -- Read against: a field of 2 cells and 3 entries at the start. Word 0 is 1, since entry 0 is drawn; the words 1 and 2 are the first cells; the count
 -- of entry 0 is 0 and its body word is 1; the counts of 1 and 2 are not filled; every other word is 0. Main's job stands in slot 0, and the slots 1
 -- and 2 are at home and empty. One seat has all 65,537 parts. A seat takes main's job: the body word is 2, slot 0 is out, and the seat bears 0.
-use Rattle.std.specs.Prelude.{◌≡◌, ◌≢◌, ◌<◌, ◌≤◌, ◌+◌, ◌*◌, ℕ, Bool, false, List, map, length, slice_index, Option, Some, None, box_value}
+use Rattle.std.specs.Prelude.{◌≡◌, ◌≢◌, ◌<◌, ◌≤◌, ◌+◌, ◌*◌, ℕ, Bool, false, List, [], map, length, slice_index, Option, Some, None, box_value}
 use Rattle.std.specs.Global.{Box}
 use mathlib.Core.Option as maybe
 use lib.ListN.{get_elem?}
@@ -70,8 +70,9 @@ pub record Stands (code : CodeParts) (fuel n : ℕ) (ws : List ℕ) (homes : Lis
   pub net : Net
   pub gave : ℕ → Bool
   pub role : ℕ → Option Role
-  -- what the body of each task had found when its job was made
+  -- what the body of each task had found when its job was made: nothing, since each job is made with its task
   pub before : ℕ → List ℕ
+  pub fresh : (t : ℕ) → before t ≡ []
   -- the cells of the program, each of which has its word
   pub cells : List ℕ
   pub size : length ws ≡ words_in (length code.first) n

@@ -20,6 +20,7 @@ pub(crate) fn add_flag<T: Tells>(
     _info: u64,
 ) -> u64
     requires table { seat.old.table_id ≡ words.now.table_id }
+    requires live { 0 < seat.old.me.0.known.words.parts }
     requires inside { word < words.now.table_id.words }
     requires keeps { Steps words.now.key.code.value words.now.key.fuel words.now.key.entries seat.old.id
         seat.old.me.0 word (λ n. (n + by) % 2 ^ 64) (λ n l. T.tells n seat.old.me.0.known l) }
@@ -38,6 +39,7 @@ pub(crate) fn lower_word<T: Tells>(
     _task: u32,
 ) -> u64
     requires table { seat.old.table_id ≡ words.now.table_id }
+    requires live { 0 < seat.old.me.0.known.words.parts }
     requires inside { word < words.now.table_id.words }
     requires keeps { Steps words.now.key.code.value words.now.key.fuel words.now.key.entries seat.old.id
         seat.old.me.0 word (λ n. (n + (2 ^ 64 - 1)) % 2 ^ 64) (λ n l. T.tells n seat.old.me.0.known l) }
@@ -61,6 +63,7 @@ pub(crate) fn add_given<T: Tells>(
     _info: u64,
 ) -> u64
     requires table { seat.old.table_id ≡ words.now.table_id }
+    requires live { 0 < seat.old.me.0.known.words.parts }
     requires inside { word < words.now.table_id.words }
     requires keeps { Steps words.now.key.code.value words.now.key.fuel words.now.key.entries seat.old.id
         seat.old.me.0 word (λ n. (n + by) % 2 ^ 64) (λ n l. T.tells n seat.old.me.0.known l) }
@@ -83,6 +86,7 @@ pub(crate) fn add_link<T: Tells>(
     _info: u64,
 ) -> u64
     requires table { seat.old.table_id ≡ words.now.table_id }
+    requires live { 0 < seat.old.me.0.known.words.parts }
     requires inside { word < words.now.table_id.words }
     requires keeps { Steps words.now.key.code.value words.now.key.fuel words.now.key.entries seat.old.id
         seat.old.me.0 word (λ n. (n + by) % 2 ^ 64) (λ n l. T.tells n seat.old.me.0.known l) }

@@ -17,6 +17,7 @@ pub(crate) fn fold_add<T: Tells>(
     _entry: u32,
 ) -> u64
     requires table { seat.old.table_id ≡ words.now.table_id }
+    requires live { 0 < seat.old.me.0.known.words.parts }
     requires inside { word < words.now.table_id.words }
     requires keeps { Steps words.now.key.code.value words.now.key.fuel words.now.key.entries seat.old.id
         seat.old.me.0 word (λ n. (n + value) % 2 ^ 64) (λ n l. T.tells n seat.old.me.0.known l) }
@@ -36,6 +37,7 @@ pub(crate) fn fold_and<T: Tells>(
     _entry: u32,
 ) -> u64
     requires table { seat.old.table_id ≡ words.now.table_id }
+    requires live { 0 < seat.old.me.0.known.words.parts }
     requires inside { word < words.now.table_id.words }
     requires keeps { Steps words.now.key.code.value words.now.key.fuel words.now.key.entries seat.old.id
         seat.old.me.0 word (λ n. bit_and n value) (λ n l. T.tells n seat.old.me.0.known l) }
@@ -55,6 +57,7 @@ pub(crate) fn fold_or<T: Tells>(
     _entry: u32,
 ) -> u64
     requires table { seat.old.table_id ≡ words.now.table_id }
+    requires live { 0 < seat.old.me.0.known.words.parts }
     requires inside { word < words.now.table_id.words }
     requires keeps { Steps words.now.key.code.value words.now.key.fuel words.now.key.entries seat.old.id
         seat.old.me.0 word (λ n. bit_or n value) (λ n l. T.tells n seat.old.me.0.known l) }
@@ -74,6 +77,7 @@ pub(crate) fn fold_xor<T: Tells>(
     _entry: u32,
 ) -> u64
     requires table { seat.old.table_id ≡ words.now.table_id }
+    requires live { 0 < seat.old.me.0.known.words.parts }
     requires inside { word < words.now.table_id.words }
     requires keeps { Steps words.now.key.code.value words.now.key.fuel words.now.key.entries seat.old.id
         seat.old.me.0 word (λ n. bit_xor n value) (λ n l. T.tells n seat.old.me.0.known l) }
@@ -93,6 +97,7 @@ pub(crate) fn read_below_word<T: Tells>(
     _child: u32,
 ) -> u64
     requires table { seat.old.table_id ≡ words.now.table_id }
+    requires live { 0 < seat.old.me.0.known.words.parts }
     requires inside { word < words.now.table_id.words }
     requires keeps { Steps words.now.key.code.value words.now.key.fuel words.now.key.entries seat.old.id
         seat.old.me.0 word (λ n. n) (λ n l. T.tells n seat.old.me.0.known l) }

@@ -15,12 +15,14 @@ ghost use Rattle.oss_field.specs.Messages.{Delivered, JoinFirst, NoJoinFirst};
 ghost use Rattle.oss_field.specs.Moves.{touched};
 ghost use Rattle.oss_field.specs.Reading.{after_flags};
 ghost use Rattle.oss_field.specs.Seats.{IsIdle, merged, new_known, parted};
+ghost use Rattle.oss_field.specs.Spent.{HasNoWork, IsApart};
 ghost use Rattle.oss_field.specs.Standing.{Fielded};
 ghost use Rattle.oss_field.specs.Taking.{IsMissing, IsPut, IsTaken, MayPut, after_count, after_take};
 ghost use Rattle.oss_jobs.specs.Jobs.{IsJob, task_of};
 ghost use Rattle.oss_words.specs.Bits.{FitsInfo};
 
 use crate::cells::{load_cell, store_cell};
+use crate::closing::{FieldParts, close_table};
 use crate::delivering::deliver_first;
 use crate::drawing::add_draw;
 use crate::flags::read_flags;
@@ -50,8 +52,8 @@ use std::snapshot::Snapshot;
 /// nobody, unless it says otherwise.
 ///
 /// Whatever the threads do, and however their steps interleave, the words, slots and seats stand for one state of the
-/// machine, which a run from the start of main can reach. So far a field begins with main alone, and none is closed to a
-/// state. A job that a seat holds touches cells, makes tasks, gives up entries, and leaves values for their joins. A seat
+/// machine, which a run from the start of main can reach. So far a field begins with main alone. At its end it is
+/// taken apart, with its last seat. A job that a seat holds touches cells, makes tasks, gives up entries, and leaves values for their joins. A seat
 /// draws entries, reads flags, takes and puts jobs, delivers messages and makes joins; seats split and join.
 #[derive(Drop)]
 pub struct Field {
@@ -447,5 +449,28 @@ impl Field {
             cell,
             value,
         );
+    }
+
+    /// The end of the field: its words, and what lies in its slots. The seat has all parts of the field, so each other
+    /// seat was joined to it, and has no work: it holds no job, makes no task, owes no count down, and has given up each
+    /// entry whose value it has joined. So no seat has work, and words and slots stand for one state of the machine, which a
+    /// run from the start of main can reach. It is an error if memory is wanted: the field is let go then. It takes memory.
+    pub fn take_apart(self, alloc: Global, seat: FieldSeat) -> Result<FieldParts, AllocError>
+        requires field { seat.field ≡ self.table }
+        requires all { seat.known.words.parts ≡ 65537 }
+        requires rests { HasNoWork seat.known }
+        ensures apart { IfOk result (λ parts. IsApart self.code self.fuel self.entries parts.words.items
+            parts.slots.items) }
+    {
+        let word_count = self.table.word_count();
+        let slot_count = self.table.slot_count();
+        let words = Vec::with_capacity(alloc, word_count)?;
+        let slots = Vec::with_capacity(alloc, slot_count)?;
+        let mut parts = FieldParts { words, slots };
+        let Field { table, .. } = self;
+        let FieldSeat { place, held, .. } = seat;
+        drop(held);
+        close_table(table, place, &mut parts, word_count, slot_count);
+        Ok(parts)
     }
 }

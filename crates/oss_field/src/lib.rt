@@ -4,6 +4,7 @@
 
 mod adding;
 mod cells;
+mod closing;
 mod combining;
 mod delivering;
 mod drawing;
@@ -34,6 +35,7 @@ mod touched;
 mod view;
 mod words;
 
+pub use closing::FieldParts;
 pub use field::Field;
 pub use seat::FieldSeat;
 pub use touched::Touched;

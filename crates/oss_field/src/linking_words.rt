@@ -16,6 +16,7 @@ pub(crate) fn write_entry<T: Tells>(
     _entry: u32,
 )
     requires table { seat.old.table_id ≡ words.now.table_id }
+    requires live { 0 < seat.old.me.0.known.words.parts }
     requires inside { word < words.now.table_id.words }
     requires keeps { Steps words.now.key.code.value words.now.key.fuel words.now.key.entries seat.old.id
         seat.old.me.0 word (λ n. value) (λ n l. T.tells value seat.old.me.0.known l) }

@@ -19,6 +19,7 @@ pub(crate) fn fill_word<T: Tells>(
     _task: u32,
 )
     requires table { seat.old.table_id ≡ words.now.table_id }
+    requires live { 0 < seat.old.me.0.known.words.parts }
     requires inside { word < words.now.table_id.words }
     requires keeps { Steps words.now.key.code.value words.now.key.fuel words.now.key.entries seat.old.id
         seat.old.me.0 word (λ n. value) (λ n l. T.tells value seat.old.me.0.known l) }
@@ -38,6 +39,7 @@ pub(crate) fn lower_word<T: Tells>(
     _task: u32,
 ) -> u64
     requires table { seat.old.table_id ≡ words.now.table_id }
+    requires live { 0 < seat.old.me.0.known.words.parts }
     requires inside { word < words.now.table_id.words }
     requires keeps { Steps words.now.key.code.value words.now.key.fuel words.now.key.entries seat.old.id
         seat.old.me.0 word (λ n. (n + (2 ^ 64 - by)) % 2 ^ 64) (λ n l. T.tells n seat.old.me.0.known l) }
@@ -57,11 +59,13 @@ pub(crate) fn hold_word<T: TellsSlots>(
     _job: &Job,
 )
     requires table { seat.old.table_id ≡ words.now.table_id }
+    requires live { 0 < seat.old.me.0.known.words.parts }
     requires inside { word < words.now.table_id.words }
     requires keeps { Allows (λ z. Stands words.now.key.code.value words.now.key.fuel words.now.key.entries z.words
         z.homes z.views) words.now.table_id.slots seat.old.id seat.old.me word (λ _. value)
         (λ _ w. T.tells value seat.old.me w) }
     ensures same { (seat.new.table_id ≡ seat.old.table_id) × (seat.new.id ≡ seat.old.id) }
+    ensures live { 0 < seat.new.me.0.known.words.parts }
     ensures told { T.tells value seat.old.me seat.new.me }
 {
     words.store::<ToldSlots<T>>(seat, word, value);

@@ -1,7 +1,7 @@
 //! The rule of the table: what each thread may rely on between any two steps. It stands in proofs alone.
 
 ghost use Rattle.oss_field.specs.Known.{first_known};
-ghost use Rattle.oss_field.specs.Table.{Stands};
+ghost use Rattle.oss_field.specs.Spent.{Rules};
 
 use crate::key::FieldKey;
 use crate::view::SeatView;
@@ -12,7 +12,7 @@ use oss_jobs::Job;
 pub(crate) struct FieldRule;
 
 impl TableRule<Option<Box<Job>>, SeatView, FieldKey> for FieldRule {
-    ghost holds = { λ key s. Stands key.code.value key.fuel key.entries s.words s.homes s.views };
+    ghost holds = { λ key s. Rules key.code.value key.fuel key.entries s.words s.homes s.views };
 
     ghost first = { λ key. record { known = first_known } };
 }

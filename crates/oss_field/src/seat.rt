@@ -1,6 +1,6 @@
 //! A thread's seat at a field.
 
-ghost use Rattle.std.specs.Prelude.{◌≡◌, ◌≢◌, ◌≤◌, [], vec_capacity, IfNone, IfSome, MatchBool};
+ghost use Rattle.std.specs.Prelude.{◌≡◌, ◌≢◌, ◌<◌, ◌≤◌, [], vec_capacity, IfNone, IfSome, MatchBool};
 ghost use Rattle.oss_field.specs.Asks.{AreInside};
 ghost use Rattle.oss_field.specs.Messages.{JoinFirst, NoJoinFirst, Settled};
 ghost use Rattle.oss_field.specs.Standing.{Standing, carried};
@@ -31,7 +31,7 @@ impl Model for FieldSeat {
     ghost invariant = { λ w. (w.place.me.1 ≡ carried w.place.me.0.known.bears) ×
         AreInside w.place.table_id w.place.me.0.known.bears ×
         Settled w.held.items w.place.table_id.slots w.place.me.0.known × (1024 ≤ vec_capacity w.held) ×
-        (w.last ≡ w.place.me.0.known.last) };
+        (w.last ≡ w.place.me.0.known.last) × (0 < w.place.me.0.known.words.parts) };
 }
 
 impl FieldSeat {

@@ -30,6 +30,7 @@ pub(crate) fn take_slot(words: &Words, seat: &mut Place, cells: u32, task: u32) 
     requires inside { task < words.now.key.entries }
     requires ready { Among task seat.old.me.0.known.ready }
     ensures same { (seat.new.table_id ≡ seat.old.table_id) × (seat.new.id ≡ seat.old.id) }
+    ensures live { 0 < seat.new.me.0.known.words.parts }
     ensures some { IfSome result (λ job. (h : Holding) × IsTaken words.now.key.code.value words.now.key.fuel task
         (box_value job) h × IsWithin cells words.now.key.entries h ×
         (seat.new.me.0.known ≡ after_take cells task h seat.old.me.0.known) ×
@@ -53,6 +54,7 @@ pub(crate) fn put_slot(words: &Words, seat: &mut Place, cells: u32, job: Box<Job
     requires slots { seat.old.me.1 ≡ carried seat.old.me.0.known.bears }
     requires held { AreInside words.now.table_id seat.old.me.0.known.bears }
     ensures same { (seat.new.table_id ≡ seat.old.table_id) × (seat.new.id ≡ seat.old.id) }
+    ensures live { 0 < seat.new.me.0.known.words.parts }
     ensures known { IsPut words.now.key.code.value (box_value job) cells seat.old.me.0.known
         seat.new.me.0.known }
     ensures slots { seat.new.me.1 ≡ carried seat.new.me.0.known.bears }
@@ -71,6 +73,7 @@ pub(crate) fn take_job(words: &Words, seat: &mut Place, cells: u32, task: u32) -
     requires slots { seat.old.me.1 ≡ carried seat.old.me.0.known.bears }
     requires held { AreInside words.now.table_id seat.old.me.0.known.bears }
     ensures same { (seat.new.table_id ≡ seat.old.table_id) × (seat.new.id ≡ seat.old.id) }
+    ensures live { 0 < seat.new.me.0.known.words.parts }
     ensures some { IfSome result (λ job. (h : Holding) × IsTaken words.now.key.code.value words.now.key.fuel task
         (box_value job) h ×
         (seat.new.me.0.known ≡ after_take cells task h (after_count cells task 0 seat.old.me.0.known))) }

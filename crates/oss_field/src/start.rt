@@ -3,7 +3,7 @@
 ghost use Rattle.std.specs.Prelude.{◌≡◌, ◌<◌, ◌≤◌, [], ◌∷◌, ◌++◌, length, IfOk, OnOk};
 ghost use Rattle.oss_field.specs.Known.{first_known};
 ghost use Rattle.oss_field.specs.Standing.{at_home, slots_at_start, words_at_start};
-ghost use Rattle.oss_field.specs.Table.{Stands};
+ghost use Rattle.oss_field.specs.Spent.{Rules};
 
 use crate::key::FieldKey;
 use crate::rule::FieldRule;
@@ -66,7 +66,7 @@ pub(crate) fn open_table(
     slots: Vec<Option<Box<Job>>>,
     key: &FieldKey,
 ) -> Result<(FieldTable, Place), AllocError>
-    requires rule { Stands key.now.code.value key.now.fuel key.now.entries words.now (at_home slots.items)
+    requires rule { Rules key.now.code.value key.now.fuel key.now.entries words.now (at_home slots.items)
         (record { known = first_known } ∷ []) }
     ensures table { IfOk result (λ r. (r.0.shared.table_id.words ≡ length words.now) ×
         (r.0.shared.table_id.slots ≡ length slots.items) × (r.0.shared.key ≡ key.now)) }

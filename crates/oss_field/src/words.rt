@@ -38,7 +38,7 @@ pub(crate) struct Told<T: Tells> {
 }
 
 impl<T: Tells> Play<Option<Box<Job>>, SeatView> for Told<T> {
-    ghost then = { λ s v n w. (w.1 ≡ v.1) × T.tells n v.0.known w.0.known };
+    ghost then = { λ s v n w. (w.1 ≡ v.1) × T.tells n v.0.known w.0.known × (0 < w.0.known.words.parts) };
 }
 
 /// Reads a word of a task or an entry, in a field of so many cells.
@@ -50,6 +50,7 @@ pub(crate) fn read_word<T: Tells>(
     _task: u32,
 ) -> u64
     requires table { seat.old.table_id ≡ words.now.table_id }
+    requires live { 0 < seat.old.me.0.known.words.parts }
     requires inside { word < words.now.table_id.words }
     requires keeps { Steps words.now.key.code.value words.now.key.fuel words.now.key.entries seat.old.id
         seat.old.me.0 word (λ n. n) (λ n l. T.tells n seat.old.me.0.known l) }
@@ -68,6 +69,7 @@ pub(crate) fn read_for<T: Tells>(
     _cell: u32,
 ) -> u64
     requires table { seat.old.table_id ≡ words.now.table_id }
+    requires live { 0 < seat.old.me.0.known.words.parts }
     requires inside { word < words.now.table_id.words }
     requires keeps { Steps words.now.key.code.value words.now.key.fuel words.now.key.entries seat.old.id
         seat.old.me.0 word (λ n. n) (λ n l. T.tells n seat.old.me.0.known l) }
@@ -87,6 +89,7 @@ pub(crate) fn write_for<T: Tells>(
     _cell: u32,
 )
     requires table { seat.old.table_id ≡ words.now.table_id }
+    requires live { 0 < seat.old.me.0.known.words.parts }
     requires inside { word < words.now.table_id.words }
     requires keeps { Steps words.now.key.code.value words.now.key.fuel words.now.key.entries seat.old.id
         seat.old.me.0 word (λ n. value) (λ n l. T.tells value seat.old.me.0.known l) }
@@ -106,6 +109,7 @@ pub(crate) fn add_word<T: Tells>(
     _count: u32,
 ) -> u64
     requires table { seat.old.table_id ≡ words.now.table_id }
+    requires live { 0 < seat.old.me.0.known.words.parts }
     requires inside { word < words.now.table_id.words }
     requires keeps { Steps words.now.key.code.value words.now.key.fuel words.now.key.entries seat.old.id
         seat.old.me.0 word (λ n. (n + by) % 2 ^ 64) (λ n l. T.tells n seat.old.me.0.known l) }
@@ -133,7 +137,7 @@ pub(crate) struct ToldSlots<T: TellsSlots> {
 }
 
 impl<T: TellsSlots> Play<Option<Box<Job>>, SeatView> for ToldSlots<T> {
-    ghost then = { λ s v n w. T.tells n v w };
+    ghost then = { λ s v n w. T.tells n v w × (0 < w.0.known.words.parts) };
 }
 
 /// Exchanges a word, if it is `old`: the word as it was.
@@ -147,11 +151,13 @@ pub(crate) fn exchange_word<T: TellsSlots>(
     _task: u32,
 ) -> u64
     requires table { seat.old.table_id ≡ words.now.table_id }
+    requires live { 0 < seat.old.me.0.known.words.parts }
     requires inside { word < words.now.table_id.words }
     requires keeps { Allows (λ z. Stands words.now.key.code.value words.now.key.fuel words.now.key.entries z.words
         z.homes z.views) words.now.table_id.slots seat.old.id seat.old.me word (λ n. either (n == old) new n)
         (λ n w. T.tells n seat.old.me w) }
     ensures same { (seat.new.table_id ≡ seat.old.table_id) × (seat.new.id ≡ seat.old.id) }
+    ensures live { 0 < seat.new.me.0.known.words.parts }
     ensures told { T.tells result seat.old.me seat.new.me }
 {
     words.compare_exchange::<ToldSlots<T>>(seat, word, old, new)
@@ -166,11 +172,13 @@ pub(crate) fn write_last<T: TellsSlots>(
     _cells: u32,
 )
     requires table { seat.old.table_id ≡ words.now.table_id }
+    requires live { 0 < seat.old.me.0.known.words.parts }
     requires inside { word < words.now.table_id.words }
     requires keeps { Allows (λ z. Stands words.now.key.code.value words.now.key.fuel words.now.key.entries z.words
         z.homes z.views) words.now.table_id.slots seat.old.id seat.old.me word (λ _. value)
         (λ _ w. T.tells value seat.old.me w) }
     ensures same { (seat.new.table_id ≡ seat.old.table_id) × (seat.new.id ≡ seat.old.id) }
+    ensures live { 0 < seat.new.me.0.known.words.parts }
     ensures told { T.tells value seat.old.me seat.new.me }
 {
     words.store::<ToldSlots<T>>(seat, word, value);

@@ -1,5 +1,5 @@
 use Rattle.std.proofs.Common.{◌+◌, ◌%◌, ◌^◌}
-use Rattle.oss_field.proofs.TableLemmas.{allowed}
+use Rattle.oss_field.proofs.SpentLemmas.{allowed}
 use Rattle.oss_field.proofs.combining.fold_add.Goals as goal
 
 pub fetch_add-requires : goal.fetch_add-requires
@@ -8,5 +8,5 @@ fetch_add-requires g c =
     let me = c.args.seat.now.me in (
       c.requires.table,
       c.requires.inside,
-      allowed key.code.value key.fuel key.entries c.args.words.now.table_id.slots c.args.seat.now.id c.args.word me (λ n. (n + c.args.value) % 2 ^ 64) (λ n l. g.T.Tells.tells n me.0.known l) c.requires.keeps,
+      allowed key.code.value key.fuel key.entries c.args.words.now.table_id.slots c.args.seat.now.id c.args.word me (λ n. (n + c.args.value) % 2 ^ 64) (λ n l. g.T.Tells.tells n me.0.known l) c.requires.live c.requires.keeps,
     )

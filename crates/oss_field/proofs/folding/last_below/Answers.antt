@@ -9,7 +9,7 @@ loop-state-init c =
     let r = c.read_child.ensures in
     let f = along c.args.words.now.key.entries c.args.cells c.args.entry c.args.first c.read_child.result c.state_of-state.result a a c.read_child.new.seat.me.0.known (notes_none a) r.reads c.state_of-state.ensures in
     record {
-      on = record { table = r.stays.table ∙ c.requires.on.table; words = c.requires.on.words; slots = c.requires.on.slots };
+      on = record { table = r.stays.table ∙ c.requires.on.table; words = c.requires.on.words; slots = c.requires.on.slots; live = r.stays.live };
       stays = r.stays;
       held = notes_held a c.read_child.new.seat.me.0.known c.args.entry f.notes c.requires.held;
       along = f;
@@ -24,8 +24,8 @@ loop-state-preserved c =
     let l = i.along.linked c.loop-state-test.true in
     let f = along c.args.words.now.key.entries c.args.cells c.args.entry c.loop-state.state.next c.read_child-in-loop-state.result c.state_of-state-in-loop-state.result a c.loop-state.place.me.0.known c.read_child-in-loop-state.new.seat.me.0.known i.along.notes r.reads c.state_of-state-in-loop-state.ensures in
     record {
-      on = record { table = r.stays.table ∙ i.on.table; words = i.on.words; slots = i.on.slots };
-      stays = record { table = r.stays.table ∙ i.stays.table; id = r.stays.id ∙ i.stays.id; slots = r.stays.slots ∙ i.stays.slots };
+      on = record { table = r.stays.table ∙ i.on.table; words = i.on.words; slots = i.on.slots; live = r.stays.live };
+      stays = record { table = r.stays.table ∙ i.stays.table; id = r.stays.id ∙ i.stays.id; slots = r.stays.slots ∙ i.stays.slots; live = r.stays.live };
       held = notes_held a c.read_child-in-loop-state.new.seat.me.0.known c.args.entry f.notes c.requires.held;
       along = f;
       inside = l.2;

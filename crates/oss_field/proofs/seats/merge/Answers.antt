@@ -1,5 +1,6 @@
 use Rattle.std.proofs.Common.{arith}
 use Rattle.oss_field.proofs.JoinLemmas.{joins}
+use Rattle.oss_field.proofs.SpentLemmas.{parts_go}
 use Rattle.oss_field.proofs.seats.merge.Goals as goal
 
 pub join_seat-requires : goal.join_seat-requires
@@ -10,5 +11,6 @@ join_seat-requires c =
       c.requires.on.1.table,
       c.requires.slots,
       omega (arith, w),
-      joins key.code.value key.fuel key.entries c.args.seat.now.id c.args.seat.now.me.0 c.args.other.id c.args.other.me.0 c.requires.idle,
+      parts_go key.code.value key.fuel key.entries c.args.seat.now.id c.args.seat.now.me.0 c.args.other.id c.args.other.me.0 c.requires.on.0.live
+          (joins key.code.value key.fuel key.entries c.args.seat.now.id c.args.seat.now.me.0 c.args.other.id c.args.other.me.0 c.requires.idle),
     )

@@ -33,4 +33,5 @@ invariant_of-seat c =
       subst (λ (n : ℕ). Settled c.deliver_first-freed.new.held.items n c.deliver_first-freed.new.place.me.0.known) (sym (ap (λ (d : TableId). d.slots) (e.stays.table ∙ q) ∙ (c.self.invariant.3 ∙ sym c.self.invariant.0))) e.settled,
       e.room,
       e.last,
+      e.stays.live,
     )

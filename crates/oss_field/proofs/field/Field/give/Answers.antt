@@ -22,4 +22,5 @@ invariant_of-seat c =
       subst (λ (n : ℕ). Settled c.give_entry.new.held.items n c.give_entry.new.place.me.0.known) (sym (ap (λ (d : TableId). d.slots) (e.stays.table ∙ q) ∙ (c.self.invariant.3 ∙ sym c.self.invariant.0))) e.settled,
       e.room,
       c.seat.invariant.4 ∙ sym (ap (λ (k : Known). k.last) e.gave.known),
+      e.stays.live,
     )

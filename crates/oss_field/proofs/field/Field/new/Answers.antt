@@ -1,4 +1,4 @@
-use Rattle.std.proofs.Common.{◌≡◌, sym, subst, ◌∙◌, ap, ℕ, List, [], length, arith}
+use Rattle.std.proofs.Common.{◌≡◌, sym, subst, ◌∙◌, ap, ℕ, ◌<◌, List, [], length, arith}
 use Rattle.oss_code.specs.declared.code.CodeParts.{CodeParts}
 use Rattle.oss_field.specs.declared.key.FieldKey.{FieldKey}
 use Rattle.atomic_table.specs.Table.{Me}
@@ -6,19 +6,22 @@ use Rattle.oss_field.specs.declared.view.SeatView.{SeatView}
 use Rattle.oss_field.specs.Asks.{AreInside}
 use Rattle.oss_field.specs.Known.{first_known}
 use Rattle.oss_field.specs.Standing.{at_home, carried, words_at_start, slots_at_start}
-use Rattle.oss_field.specs.Table.{Slot, Stands}
+use Rattle.oss_field.specs.Spent.{Rules}
+use Rattle.oss_field.specs.Table.{Slot}
 use Rattle.oss_field.proofs.DeliverLemmas.{first_settled}
+use Rattle.oss_field.proofs.SpentLemmas.{first_rules}
 use Rattle.oss_field.proofs.StartLemmas.{begins, slots_length}
 use Rattle.oss_field.proofs.field.Field.new.Goals as goal
 
 pub open_table-requires : goal.open_table-requires
 open_table-requires c = record {
   rule =
-      subst (λ (z : CodeParts). Stands z c.args.fuel c.args.entries c.as_slice-2.result.now (at_home c.in_ok-slots.slots.items) _) (sym c.of.ensures)
-      (subst (λ (z : List Slot). Stands c.args.code.now c.args.fuel c.args.entries c.as_slice-2.result.now (at_home z) _) (sym c.in_ok-slots.ensures)
-      (subst (λ (z : List ℕ). Stands c.args.code.now c.args.fuel c.args.entries z (at_home (slots_at_start c.args.job c.args.entries)) _)
+      subst (λ (z : CodeParts). Rules z c.args.fuel c.args.entries c.as_slice-2.result.now (at_home c.in_ok-slots.slots.items) _) (sym c.of.ensures)
+      (subst (λ (z : List Slot). Rules c.args.code.now c.args.fuel c.args.entries c.as_slice-2.result.now (at_home z) _) (sym c.in_ok-slots.ensures)
+      (subst (λ (z : List ℕ). Rules c.args.code.now c.args.fuel c.args.entries z (at_home (slots_at_start c.args.job c.args.entries)) _)
       (sym (c.as_slice-2.ensures.value ∙ (c.in-Ok.ensures ∙ ap (λ (z : List ℕ). words_at_start z c.args.entries) (c.as_slice.ensures ∙ c.first.ensures))))
-      (begins c.args.code.now c.args.fuel c.args.entries c.requires.entries.0 c.requires.entries.1 c.args.job c.main_is_set.ensures c.requires.main)));
+      (first_rules c.args.code.now c.args.fuel c.args.entries (words_at_start c.args.code.now.first c.args.entries) (at_home (slots_at_start c.args.job c.args.entries))
+      (begins c.args.code.now c.args.fuel c.args.entries c.requires.entries.0 c.requires.entries.1 c.args.job c.main_is_set.ensures c.requires.main))));
 }
 
 pub invariant_of-field : goal.invariant_of-field
@@ -53,4 +56,5 @@ invariant_of-result c =
       first_settled c.in_ok-held.held.items c.in_ok-table.place.table_id.slots c.in_ok-table.place.me.0.known c.in_ok-held.ensures.0 (ap (λ (x : Me Slot SeatView). x.0.known) me),
       c.in_ok-held.ensures.1,
       sym (ap (λ (x : Me Slot SeatView). x.0.known.last) me),
+      subst (λ (x : Me Slot SeatView). 0 < x.0.known.words.parts) (sym me) (let all : 0 < 65537 = omega arith in all),
     )

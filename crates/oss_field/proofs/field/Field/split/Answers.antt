@@ -1,4 +1,4 @@
-use Rattle.std.proofs.Common.{sym, subst, ap, ◌∙◌}
+use Rattle.std.proofs.Common.{◌<◌, arith, sym, subst, ap, ◌∙◌}
 use Rattle.atomic_table.specs.Seated.{TableId}
 use Rattle.oss_field.specs.Asks.{AreInside}
 use Rattle.oss_field.specs.Known.{Known}
@@ -18,6 +18,7 @@ invariant_of-seat c =
       subst (λ (d : TableId). Settled c.seat.inside.held.items d.slots c.part-place.new.seat.me.0.known) (sym e.stays.table) (settled_on c.seat.inside.held.items c.seat.inside.place.table_id.slots c.seat.inside.place.me.0.known c.part-place.new.seat.me.0.known same c.seat.invariant.2),
       c.seat.invariant.3,
       c.seat.invariant.4 ∙ sym same.last,
+      e.stays.live,
     )
 
 pub invariant_of-result : goal.invariant_of-result
@@ -29,4 +30,5 @@ invariant_of-result c =
       new_settled c.in_ok-held.held.items c.part-place.result.table_id.slots c.part-place.result.me.0.known c.in_ok-held.ensures.0 known,
       c.in_ok-held.ensures.1,
       sym (ap (λ (k : Known). k.last) known),
+      subst (λ (k : Known). 0 < k.words.parts) (sym known) (let one : 0 < 1 = omega arith in one),
     )

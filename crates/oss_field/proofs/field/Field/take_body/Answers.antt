@@ -17,4 +17,5 @@ invariant_of-seat c =
       subst (λ (d : TableId). Settled c.seat.inside.held.items d.slots c.take_job.new.seat.me.0.known) (sym e.same.0) (settled_on c.seat.inside.held.items c.seat.inside.place.table_id.slots c.seat.inside.place.me.0.known c.take_job.new.seat.me.0.known same c.seat.invariant.2),
       c.seat.invariant.3,
       c.seat.invariant.4 ∙ sym same.last,
+      e.live,
     )

@@ -1,0 +1,2 @@
+pub mod PrintedLaw
+pub mod TabledLaw
