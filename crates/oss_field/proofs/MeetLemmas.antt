@@ -45,7 +45,7 @@ more_below own c (suc d) low has = elim (same_number c d) [
   | inr ne ↦ let l = more_below own c d (omega (arith, low, ne)) has in omega (arith, l)
 ]
 
-not_zero : (t : ℕ) → t ≢ 0 → not (t == 0) ≡ true
+pub not_zero : (t : ℕ) → t ≢ 0 → not (t == 0) ≡ true
 not_zero t h = go (t == 0) (eqb_tells t 0)
   where
     go : (b : Bool) → ((b ≡ true) × (t ≡ 0)) ⊎ ((b ≡ false) × (t ≢ 0)) → not b ≡ true
@@ -53,10 +53,10 @@ not_zero t h = go (t == 0) (eqb_tells t 0)
     go true (inr q) = absurd (clash refl q.0)
     go false p = refl
 
-in_range : (lo hi e : ℕ) → lo ≤ e → e < hi → is_within lo hi e ≡ true
+pub in_range : (lo hi e : ℕ) → lo ≤ e → e < hi → is_within lo hi e ≡ true
 in_range lo hi e low high = grind (arith, nat_tests)
 
-both_are : (a b : Bool) → a ≡ true → b ≡ true → (a && b) ≡ true
+pub both_are : (a b : Bool) → a ≡ true → b ≡ true → (a && b) ≡ true
 both_are true b p q = q
 both_are false b p q = p
 
@@ -64,7 +64,7 @@ first_is : (a b : Bool) → a ≡ true → (a || b) ≡ true
 first_is true b p = refl
 first_is false b p = absurd (cc)
 
-entry_is : (m : ℕ) (h : Holding) (cell : ℕ) (mode : Mode) (strong : Bool) → h.number ≢ 0 → cell < m → right_of h.body.start.context cell ≡ Holds mode strong → is_entry_of m h (entry_of h (Some cell)) ≡ true
+pub entry_is : (m : ℕ) (h : Holding) (cell : ℕ) (mode : Mode) (strong : Bool) → h.number ≢ 0 → cell < m → right_of h.body.start.context cell ≡ Holds mode strong → is_entry_of m h (entry_of h (Some cell)) ≡ true
 entry_is m h cell mode strong number low right =
     let less = more_below (right_of h.body.start.context) cell m low (ap has_cell right) in
     both_are (not (h.number == 0)) (is_within h.number (h.number + 1 + cells_below (right_of h.body.start.context) m) (entry_of h (Some cell))) (not_zero h.number number)
@@ -74,18 +74,18 @@ or_later : (a b : Bool) → b ≡ true → (a || b) ≡ true
 or_later true b p = refl
 or_later false b p = p
 
-own_is : (m : ℕ) (hs : List Holding) (i : ℕ) (h : Holding) (e : ℕ) → get_elem? hs i ≡ maybe.some h → is_entry_of m h e ≡ true → is_own m hs e ≡ true
+pub own_is : (m : ℕ) (hs : List Holding) (i : ℕ) (h : Holding) (e : ℕ) → get_elem? hs i ≡ maybe.some h → is_entry_of m h e ≡ true → is_own m hs e ≡ true
 own_is m [] i h e at own = absurd (maybe.some-ne-none h (sym at))
 own_is m (g ∷ hs) zero h e at own = first_is (is_entry_of m g e) (is_own m hs e) (ap (λ (z : Holding). is_entry_of m z e) (maybe.some-injective g h at) ∙ own)
 own_is m (g ∷ hs) (suc i) h e at own = or_later (is_entry_of m g e) (is_own m hs e) (own_is m hs i h e at own)
 
 -- what a job may have done by itself is no less, once more was seen
 module _ (v w : Sight CodeScript) (b : Bearing CodeScript) (more : (y : Seen) → Among y v.seen → Among y w.seen) where
-  all_on : (y : Site) → AllDone v b y → AllDone w b y
+  pub all_on : (y : Site) → AllDone v b y → AllDone w b y
   all_on y (no_child none) = no_child none
   all_on y (last_done x is among clear done) = last_done x is (more x among) clear done
 
-  newest_on : NewestDone v b → NewestDone w b
+  pub newest_on : NewestDone v b → NewestDone w b
   newest_on (no_task none) = no_task none
   newest_on (newest_done x is among done) = newest_done x is (more x among) done
 
@@ -104,7 +104,7 @@ module _ (v w : Sight CodeScript) (b : Bearing CodeScript) (more : (y : Seen) �
   pass_on (Fault f l k) m = m
   pass_on Over m = m
 
-  go_on : (P : Program CodeScript) (x : Body CodeScript) → MayGo P v b x → MayGo P w b x
+  pub go_on : (P : Program CodeScript) (x : Body CodeScript) → MayGo P v b x → MayGo P w b x
   go_on P x still_there = still_there
   go_on P x (went_on {x = y} m own pass) = went_on (go_on P y m) own (pass_on (act_now P y) pass)
 

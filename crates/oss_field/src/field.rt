@@ -2,7 +2,7 @@
 
 ghost use Rattle.std.specs.Prelude.{◌≡◌, ◌≢◌, ◌<◌, ◌≤◌, ◌+◌, ◌*◌, ◌==◌, ℕ, [], length, None, IfErr, IfNone, IfOk, IfSome, box_value};
 ghost use Rattle.oss_body.specs.Mains.{code_main};
-ghost use Rattle.oss_field.specs.Asks.{IsLoaded, IsStored, MayLoad, MayStore};
+ghost use Rattle.oss_field.specs.Asks.{AreInside, IsLoaded, IsStored, MayLoad, MayStore};
 ghost use Rattle.oss_field.specs.Drawing.{IsAboveAll, drew, missed};
 ghost use Rattle.oss_field.specs.Folding.{Folded};
 ghost use Rattle.oss_field.specs.Giving.{Gave, StandsToGive};
@@ -215,6 +215,17 @@ impl Field {
         ensures found { seat.new.known ≡ after_flags (length self.now.code.first) entry result seat.old.known }
     {
         read_flags(&self.table.shared, &mut seat.place, self.cells, entry)
+    }
+
+    /// The entries of the tasks whose jobs a seat holds, and their last children, are entries of the field. It takes no
+    /// step: it tells this to proofs alone.
+    pub fn has_entries(&self, seat: &FieldSeat)
+        requires field { seat.now.field ≡ self.now.table }
+        ensures inside { AreInside seat.now.field seat.now.known.bears }
+        ensures slots { seat.now.field.slots ≡ self.now.entries }
+    {
+        let _ = &self.table;
+        let _ = &seat.place;
     }
 
     /// What the info word of an entry tells, as it stands at this step; `None` exactly if the field has no such entry. It
