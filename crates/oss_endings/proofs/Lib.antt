@@ -1,0 +1,4 @@
+pub mod LookLemmas
+pub mod LetLemmas
+pub mod WaitLemmas
+pub mod OrderLemmas
