@@ -1,13 +1,12 @@
 -- What a give and a leave of a job that a seat works with ask for, and what they leave.
-use Rattle.std.proofs.Common.{◌≡◌, ◌≢◌, refl, sym, subst, ap, ◌∙◌, ℕ, zero, suc, ◌<◌, ◌≤◌, ◌+◌, arith, Bool, true, false, ◌==◌, List, [], ◌∷◌, ◌++◌, length, set, Option, Some, None}
-use Rattle.std.specs.Prelude.{not, ◌&&◌, ◌||◌}
-use mathlib.Core.Option as maybe
+use Rattle.std.proofs.Common.{◌≡◌, ◌≢◌, refl, sym, subst, ap, ◌∙◌, ℕ, ◌<◌, ◌+◌, arith, Bool, true, false, ◌==◌, List, [], ◌∷◌, ◌++◌, length, set, Option, Some, None}
+use Rattle.std.specs.Prelude.{not}
 use lib.ListN.{get_elem?}
-use Rattle.oss_body.specs.Places.{Placed, place_of}
-use Rattle.oss_body.specs.Relation.{is_over, has_wait, released_by}
+use Rattle.oss_body.specs.Places.{Placed}
+use Rattle.oss_body.specs.Relation.{is_over, released_by}
 use Rattle.oss_code.specs.declared.code.CodeParts.{CodeParts}
 use Rattle.oss_jobs.specs.declared.job.Job.{Job}
-use Rattle.oss_jobs.specs.Jobs.{IsJob, body_of, task_of}
+use Rattle.oss_jobs.specs.Jobs.{body_of, task_of}
 use Rattle.oss_machine.specs.Frames.{CodeScript}
 use Rattle.oss_machine.specs.Machines.{asks}
 use Rattle.oss_model.specs.Bodies.{Body, Start, stack_from}
@@ -18,23 +17,23 @@ use Rattle.oss_syntax.specs.declared.access.Mode.{Mode}
 use Rattle.oss_syntax.specs.declared.access.Mode.TheVariants.{Fold}
 use Rattle.oss_syntax.specs.declared.access.Op.{Op}
 use Rattle.oss_words.specs.Bits.{state_at}
-use Rattle.oss_words.specs.Views.{Among, Seen, among_first, among_later}
+use Rattle.oss_words.specs.Views.{Among, Seen, among_first}
 use Rattle.oss_words.proofs.SeatLemmas.{among_none}
 use Rattle.oss_roles.specs.JobSteps.{MayEnd, MayGive, ended, released}
 use Rattle.oss_roles.specs.Numbers.{cells_below}
 use Rattle.oss_roles.specs.Passing.{AllDone, last_done, no_child, still_there}
 use Rattle.oss_roles.specs.Roles.{itself}
-use Rattle.oss_roles.specs.Sights.{Fixed, Making}
+use Rattle.oss_roles.specs.Sights.{Making}
 use Rattle.oss_field.specs.Asks.{IsGiven}
 use Rattle.oss_field.specs.Giving.{Gave, IsSeenGiven, IsStillOpen, StandsToGive, gives_cell, gives_own}
-use Rattle.oss_field.specs.Known.{Holding, Known, bearing_of, last_of, sight_of}
+use Rattle.oss_field.specs.Known.{Holding, Known, bearing_of, sight_of}
 use Rattle.oss_field.specs.Leaving.{HasLeft, IsStillUnleft, StandsToLeave}
 use Rattle.oss_field.specs.Moves.{with_body}
 use Rattle.oss_field.specs.Owning.{HasEntry, entry_of}
 use Rattle.oss_field.specs.Reading.{after_flags, is_entry_of, is_own, kept_still}
 use Rattle.oss_field.proofs.MeetLemmas.{both_are, in_range, not_zero, own_is}
 use Rattle.oss_field.proofs.MeetLemmas as meet
-use Rattle.oss_acts.specs.Working.{IsOfProgram, SameWork, Works}
+use Rattle.oss_acts.specs.Working.{SameWork, Works}
 use Rattle.oss_acts.proofs.WorkLemmas.{go_start, program_on, set_one, the_place}
 use Rattle.oss_endings.specs.Ending.{AllGiven, AreDone, IsWaitMet, MayLetGo, entry_there, has_ended, has_released, none_there, right_there, seen_done}
 use Rattle.oss_endings.specs.Letting.{Lets, Looks, looked_more, nothing_yet}

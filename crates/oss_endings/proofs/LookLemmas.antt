@@ -1,14 +1,12 @@
 -- What a look at flags leaves: the seat works with its job as before, and the entries of the job are entries of the field.
-use Rattle.std.proofs.Common.{◌≡◌, ◌≢◌, ◌⊎◌, inl, inr, refl, sym, subst, ap, ◌∙◌, ℕ, zero, suc, ◌<◌, ◌≤◌, arith, Bool, true, false, ◌&&◌, List, [], ◌∷◌, length, Option, Some, None}
+use Rattle.std.proofs.Common.{◌≡◌, ◌≢◌, refl, sym, subst, ap, ◌∙◌, ℕ, ◌<◌, arith, Bool, true, false, ◌&&◌, List, Option, Some, None}
 use Rattle.std.specs.Prelude.{if◌then◌else◌}
-use mathlib.Core.Option as maybe
 use lib.ListN.{get_elem?}
 use Rattle.atomic_table.specs.Seated.{TableId}
-use Rattle.oss_body.specs.Relation.{is_over, has_wait, released_by}
 use Rattle.oss_code.specs.declared.code.CodeParts.{CodeParts}
 use Rattle.oss_jobs.specs.declared.job.Job.{Job}
 use Rattle.oss_jobs.specs.Entries.{or_zero}
-use Rattle.oss_jobs.specs.Jobs.{IsJob, body_of, entry_at, last_at, last_child_of, task_of}
+use Rattle.oss_jobs.specs.Jobs.{entry_at, last_child_of, task_of}
 use Rattle.oss_machine.specs.Frames.{CodeScript}
 use Rattle.oss_machine.specs.Machines.{asks}
 use Rattle.oss_model.specs.Bodies.{Body, Start}
@@ -16,17 +14,17 @@ use Rattle.oss_model.specs.Context.{right_of}
 use Rattle.oss_model.specs.Rights.{Right, NoRight, Released, Holds}
 use Rattle.oss_syntax.specs.declared.access.Mode.{Mode}
 use Rattle.oss_words.specs.Bits.{state_at}
-use Rattle.oss_words.specs.Views.{Among, Seen, among_first, among_later}
+use Rattle.oss_words.specs.Views.{Among, among_first, among_later}
 use Rattle.oss_roles.specs.Numbers.{entry_on, entry_number, has_cell}
 use Rattle.oss_roles.specs.Sights.{Fixed}
-use Rattle.oss_field.specs.Asks.{AreInside, IsGiven, IsInside}
+use Rattle.oss_field.specs.Asks.{AreInside, IsInside}
 use Rattle.oss_field.specs.Known.{Holding, Known, bearing_of, last_of, sight_of}
 use Rattle.oss_field.specs.Owning.{HasEntry, entry_of, site_of}
 use Rattle.oss_field.specs.Reading.{after_flags, is_own, kept_still}
 use Rattle.oss_field.proofs.MeetLemmas.{go_on}
-use Rattle.oss_acts.specs.Working.{IsOfProgram, Works}
+use Rattle.oss_acts.specs.Working.{Works}
 use Rattle.oss_acts.proofs.WorkLemmas.{go_start}
-use Rattle.oss_endings.specs.Ending.{AreDone, IsNewestDone, IsNewestUndone, IsSeenOpen, IsUndone, IsWaitMet, entry_there, last_there, newest_seen, no_newest, none_there, right_there, seen_done}
+use Rattle.oss_endings.specs.Ending.{AreDone, IsNewestDone, IsNewestUndone, IsUndone, entry_there, last_there, newest_seen, right_there, seen_done}
 use Rattle.oss_endings.specs.Letting.{Looks}
 
 still_more : (own : Bool) (e word : ℕ) (fs : List Fixed) (y : Fixed) → Among y fs → Among y (kept_still own e (state_at word) fs)

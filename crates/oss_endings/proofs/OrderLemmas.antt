@@ -6,7 +6,7 @@ use Rattle.oss_words.specs.Views.{Among, Seen}
 use Rattle.oss_field.specs.Known.{Known}
 use Rattle.oss_acts.specs.News.{Delivers}
 use Rattle.oss_acts.specs.Working.{SameWork}
-use Rattle.std.proofs.Common.{Option, None}
+use Rattle.std.proofs.Common.{None}
 use Rattle.oss_endings.specs.Ending.{AllGiven, AreDone, IsWaitMet, MayLetGo, has_ended, has_released, none_there, seen_done}
 use Rattle.oss_endings.specs.Letting.{Lets, Looks, nothing_yet, looked_more, gave_more, left_more, delivered_more}
 

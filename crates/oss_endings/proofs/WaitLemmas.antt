@@ -1,5 +1,5 @@
 -- A wait that the seat has seen to be met is done.
-use Rattle.std.proofs.Common.{◌≡◌, refl, sym, subst, ap, ◌∙◌, ℕ, Bool, true, false, List, Option, None}
+use Rattle.std.proofs.Common.{◌≡◌, refl, sym, subst, ap, ◌∙◌, ℕ, false, List, Option, None}
 use lib.ListN.{get_elem?}
 use Rattle.std.specs.Prelude.{OnErr, Result, Ok, Err}
 use Rattle.oss_body.specs.declared.act.Act.TheVariants as acts
@@ -16,7 +16,7 @@ use Rattle.oss_model.specs.Moves.{act_now}
 use Rattle.oss_roles.specs.Alone.{IsOwnAct, with_answer}
 use Rattle.oss_roles.specs.Passing.{AllDone, MayPass, NewestDone, last_done, newest_done, no_child, no_task, went_on}
 use Rattle.oss_roles.specs.Roles.{Site, itself}
-use Rattle.oss_field.specs.Known.{Holding, Known, bearing_of, last_of, sight_of}
+use Rattle.oss_field.specs.Known.{Known, bearing_of, last_of, sight_of}
 use Rattle.oss_acts.specs.Working.{HasActed, Works}
 use Rattle.oss_acts.proofs.TouchLemmas.{Advances}
 use Rattle.oss_acts.proofs.WorkLemmas.{program_on}

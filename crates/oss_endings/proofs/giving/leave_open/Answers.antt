@@ -1,4 +1,4 @@
-use Rattle.std.proofs.Common.{◌≡◌, refl, sym, subst, ap, ◌∙◌, Bool, true, false, length, Option, Some, None}
+use Rattle.std.proofs.Common.{refl, sym, subst, ap, ◌∙◌, true, length, Some}
 use Rattle.oss_body.specs.declared.body.Body.{Body as KeptBody}
 use Rattle.oss_body.specs.Relation.{IsBody}
 use Rattle.oss_model.specs.Rights.{Holds}

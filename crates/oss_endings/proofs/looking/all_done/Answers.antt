@@ -1,7 +1,7 @@
-use Rattle.std.proofs.Common.{◌≡◌, sym, ap, ◌∙◌, Bool, true, false, length}
+use Rattle.std.proofs.Common.{sym, ap, ◌∙◌, length}
 use Rattle.std.specs.Prelude.{◌&&◌}
 use Rattle.oss_words.specs.declared.entry.EntryState.{EntryState}
-use Rattle.oss_endings.proofs.LookLemmas.{done_after, last_inside, looks_none, looks_one, looks_work, undone_after}
+use Rattle.oss_endings.proofs.LookLemmas.{done_after, last_inside, looks_one, looks_work, undone_after}
 use Rattle.oss_endings.proofs.looking.all_done.Goals as goal
 
 pub look-state-requires-clause-inside : goal.look-state-requires-clause-inside

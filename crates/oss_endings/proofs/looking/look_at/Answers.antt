@@ -1,4 +1,4 @@
-use Rattle.std.proofs.Common.{◌≡◌, ℕ, ◌<◌, sym, subst}
+use Rattle.std.proofs.Common.{ℕ, ◌<◌, sym, subst}
 use Rattle.oss_endings.proofs.LookLemmas.{entry_inside}
 use Rattle.oss_endings.proofs.looking.look_at.Goals as goal
 

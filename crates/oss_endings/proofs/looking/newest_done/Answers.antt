@@ -1,4 +1,4 @@
-use Rattle.std.proofs.Common.{◌≡◌, sym, ap, ◌∙◌, Bool, true, false, length, None}
+use Rattle.std.proofs.Common.{sym, ap, ◌∙◌, length, None}
 use Rattle.oss_words.specs.declared.entry.EntryState.{EntryState}
 use Rattle.oss_endings.proofs.LookLemmas.{last_inside, looks_one, looks_work, newest_after, newest_undone_after}
 use Rattle.oss_endings.proofs.looking.newest_done.Goals as goal

@@ -1,4 +1,4 @@
-use Rattle.std.proofs.Common.{◌≡◌, sym, subst}
+use Rattle.std.proofs.Common.{sym, subst}
 use Rattle.oss_code.specs.declared.code.CodeParts.{CodeParts}
 use Rattle.oss_acts.proofs.TouchLemmas.{Advances}
 use Rattle.oss_endings.proofs.WaitLemmas.{of_error, stays_works, awaited}
