@@ -4,7 +4,9 @@
 use Rattle.std.specs.Prelude.{◌≡◌, ℕ, List}
 use Rattle.oss_body.specs.Mains.{code_main}
 use Rattle.oss_code.specs.declared.code.CodeParts.{CodeParts}
+use Rattle.oss_core.specs.declared.parts.CoreParts.{CoreParts}
 use Rattle.oss_core.specs.Kept.{IsCore, Kept}
+use Rattle.oss_core.specs.Parts.{AreParts}
 use Rattle.oss_deps.specs.Kept as deps
 use Rattle.oss_deps.specs.Kept.{seen_of}
 use Rattle.oss_kept_tasks.specs.declared.held.Held.{Held}
@@ -36,6 +38,14 @@ pub record IsOfRun (h : Contents) : Type 0 where
   pub fuel : ℕ
   pub state : State CodeScript
   pub is : IsHeldState code fuel h state
+
+-- The parts are those of a core of some run, and a table over its state needs so many entries.
+pub record ArePartsOfRun (parts : CoreParts) (entries : ℕ) : Type 0 where
+  pub code : CodeParts
+  pub fuel : ℕ
+  pub state : State CodeScript
+  pub are : AreParts code (code_main code fuel) code.first parts state
+  pub needed : IsNeeded state entries
 
 -- The second is as the first: its core keeps the same, and a table over it needs as many entries. So both are held states of the same states.
 pub record IsSame (h now : Contents) : Type 0 where

@@ -3,6 +3,7 @@
 ghost use Rattle.std.specs.Prelude.{◌≡◌, ◌≤◌, ℕ, length, IfOk, IfSome, None};
 ghost use Rattle.oss_body.specs.Mains.{code_main};
 ghost use Rattle.oss_code.specs.declared.code.CodeParts.{CodeParts};
+ghost use Rattle.oss_core.specs.Parts.{AreParts};
 ghost use Rattle.oss_machine.specs.Frames.{CodeScript};
 ghost use Rattle.oss_machine.specs.Machines.{asks};
 ghost use Rattle.oss_model.specs.Answers.{IsAnswer, IsStopped};
@@ -10,11 +11,11 @@ ghost use Rattle.oss_model.specs.Machine.{State};
 ghost use Rattle.oss_model.specs.Moves.{opening as start_of};
 ghost use Rattle.oss_held.specs.Needs.{IsNeeded};
 ghost use Rattle.oss_held.specs.Points.{ArePoints};
-ghost use Rattle.oss_held.specs.States.{IsHeldState, IsSame};
+ghost use Rattle.oss_held.specs.States.{ArePartsOfRun, IsHeldState, IsSame};
 
 use crate::points::{all_tasks, points_of};
 use oss_code::Code;
-use oss_core::Core;
+use oss_core::{Core, CoreParts};
 use oss_deps::PlainDeps;
 use oss_model::{Answer, Point};
 use oss_syntax::List;
@@ -78,6 +79,23 @@ impl Held {
             alloc,
             core,
             entries: 1,
+        })
+    }
+
+    /// The state of these parts of a core, over which a table needs so many entries. They are those of some state that a run
+    /// can reach, and what is made is held of each such state. It takes memory, and want of it is the one error: the parts
+    /// are let go then.
+    pub fn of_parts(alloc: Global, parts: CoreParts, entries: u64) -> Result<Held, AllocError>
+        requires run { ArePartsOfRun parts entries }
+        ensures { IfOk result (λ held. (code : CodeParts) (fuel : ℕ) (s : State CodeScript) →
+            AreParts code (code_main code fuel) code.first parts s → IsNeeded s entries →
+            IsHeldState code fuel held s) }
+    {
+        let core = Core::together(alloc, parts, PlainDeps::new(alloc))?;
+        Ok(Held {
+            alloc,
+            core,
+            entries,
         })
     }
 
