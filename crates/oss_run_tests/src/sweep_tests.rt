@@ -89,11 +89,24 @@ fn tail() -> [Instr; 15] {
     ]
 }
 
-/// Puts instructions behind others.
-fn add<const N: usize>(rt: &(impl Abort + AllocGlobal), instrs: &mut Vec<Instr>, more: [Instr; N]) {
-    for instr in more {
-        assert!(rt; instrs.push(instr).is_ok());
+/// Puts an instruction behind others.
+fn add(rt: &impl Abort, instrs: &mut Vec<Instr>, instr: Instr) {
+    assert!(rt; instrs.push(instr).is_ok());
+}
+
+/// All of them.
+fn instructions(rt: &(impl Abort + AllocGlobal)) -> Vec<Instr> {
+    let mut instrs = Vec::new(rt.alloc());
+    for instr in head() {
+        add(rt, &mut instrs, instr);
     }
+    for instr in assignment() {
+        add(rt, &mut instrs, instr);
+    }
+    for instr in tail() {
+        add(rt, &mut instrs, instr);
+    }
+    instrs
 }
 
 /// How many values there are before each of them.
@@ -108,12 +121,8 @@ fn code(rt: &(impl Abort + AllocGlobal)) -> Code {
         range: Range { lo: 0, hi: 3 },
         columns: None,
     }];
-    let mut instrs = Vec::new(rt.alloc());
-    add(rt, &mut instrs, head());
-    add(rt, &mut instrs, assignment());
-    add(rt, &mut instrs, tail());
     let parts = CodeParts {
-        instrs: List::from_vec(instrs),
+        instrs: List::from_vec(instructions(rt)),
         lines: List::from_vec(vec![in rt.alloc(); 1; 44].expect(rt, "memory")),
         depths: numbers(rt, DEPTHS.as_slice()),
         first: Cells::from_vec(vec![in rt.alloc(); 0; 3].expect(rt, "memory")),
